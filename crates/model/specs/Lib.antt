@@ -1,0 +1,13 @@
+pub mod Lists
+pub mod Edition
+pub mod Cap
+pub mod Tree
+pub mod Check
+pub mod Tables
+pub mod Rules
+pub mod Lookup
+pub mod Removal
+pub mod Operations
+pub mod Request
+pub mod Estate
+pub mod Cases
