@@ -1,0 +1,4 @@
+pub mod Booleans
+pub mod Members
+pub mod Distinct
+pub mod State
