@@ -68,7 +68,7 @@ count-but p k (suc n) h e = go (order k n) (λ l. count-but p k n l e)
     go (less l) ih = rw (but-other p k n (omega arith)) (omega (arith, ih l))
     go (same s) ih =
         rw (← s, e, but-same p k)
-          (omega (arith, count-same p (but p k) k (λ j l. sym (but-other p k j (omega arith)))))
+        (omega (arith, count-same p (but p k) k (λ j l. sym (but-other p k j (omega arith)))))
     go (more l) ih = absurd (omega arith)
 
 pub pigeons : (ks : List ℕ) (p : ℕ → Bool) (n : ℕ) → Distinct ks → All (λ k. (k < n) × (p k ≡ true)) ks → length ks ≤ count p n

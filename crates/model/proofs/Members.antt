@@ -107,8 +107,8 @@ module _ {A : Type 0} where
       either (p x)
       (λ t. let u = h x (List·Memᴰ·head refl) t in let l′ = rw (t, u) at l in rw (t, u) (ap (λ l. x ∷ l) (ih (omega arith))))
       (λ f. either (q x)
-        (λ u. let l′ = rw (f, u) at l in absurd (omega arith))
-        (λ g. let l′ = rw (f, g) at l in rw (f, g) (ih l′)))
+      (λ u. let l′ = rw (f, u) at l in absurd (omega arith))
+      (λ g. let l′ = rw (f, g) at l in rw (f, g) (ih l′)))
 
   pub keep-length : (p : A → Bool) (xs : List A) → length (keep p xs) ≤ length xs
   unfolding keep

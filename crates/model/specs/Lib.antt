@@ -4,6 +4,7 @@ pub mod Cap
 pub mod Tree
 pub mod Check
 pub mod Tables
+pub mod Stores
 pub mod Rules
 pub mod Lookup
 pub mod Removal
