@@ -178,9 +178,10 @@ served E f caller message = do
 unfoldable pub applied : State → Done → Changed
 applied s d = record { count = d .count; state = record { m = s .m; r = s .r; forest = edit (d .deed) (s .forest) } }
 
+-- what comes of an operation on tables that keep the rules
+unfoldable pub carriedOut : Edition → Tables → (operation : Forest → Check Done) → Outcome
+carriedOut E t operation = concluded E t (operation (read E t .forest) >>= λ d. passed (applied (read E t) d))
+
 -- Any tables and any message get an answer.
 unfoldable pub request : Edition → Tables → (caller : ℕ) → (message : List ℕ) → Outcome
-request E t caller message = concluded E t (do
-  refuse BadTables (not (wellFormed E t))
-  done ← served E (read E t .forest) caller message
-  passed (applied (read E t) done))
+request E t caller message = cond (wellFormed E t) (carriedOut E t (λ f. served E f caller message)) (record { answer = BadTables; tables = t })
