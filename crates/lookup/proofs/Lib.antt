@@ -1,0 +1,4 @@
+mod Shift
+mod Levels
+pub mod WellFormed
+pub mod Found
