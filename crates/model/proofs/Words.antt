@@ -1,0 +1,5 @@
+pub mod Listing
+pub mod Rows
+pub mod ReadWrite
+pub mod Chain
+pub mod WellFormed
