@@ -3,3 +3,5 @@ pub mod Rows
 pub mod ReadWrite
 pub mod Chain
 pub mod WellFormed
+pub mod Around
+pub mod Caps
