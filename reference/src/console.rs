@@ -7,12 +7,16 @@
 //!   well-formed or ROW is out of the table.
 //! - `tree`: for each listed row in list order one line, indented by two spaces for each depth, then `end`; or the one
 //!   line `bad`, without `end`, if the tables are not well-formed. The lines, by kind:
-//!       row K Untyped address A bytes N watermark W
-//!       row K TCB address A
-//!       row K Endpoint address A badge B rights RIGHTS
-//!       row K Notification address A badge B rights RIGHTS
-//!       row K CNode address A radix X guard G size S
-//!       row K Frame address A rights RIGHTS
+//!
+//!   ```text
+//!   row K Untyped address A bytes N watermark W
+//!   row K TCB address A
+//!   row K Endpoint address A badge B rights RIGHTS
+//!   row K Notification address A badge B rights RIGHTS
+//!   row K CNode address A radix X guard G size S
+//!   row K Frame address A rights RIGHTS
+//!   ```
+//!
 //!   N is the number of bytes (256, not the exponent 8). RIGHTS is `none`, or those of `write`, `read`, `grant` that
 //!   the capability has, in this order, joined by `+`.
 
@@ -197,13 +201,9 @@ fn described(cap: &Cap) -> String {
         Kind::Notification => {
             format!("Notification address {} badge {} rights {}", address, cap.badge(), rights_in_words(cap.rights()))
         }
-        Kind::CNode => format!(
-            "CNode address {} radix {} guard {} size {}",
-            address,
-            cap.radix(),
-            cap.guard(),
-            cap.guard_size()
-        ),
+        Kind::CNode => {
+            format!("CNode address {} radix {} guard {} size {}", address, cap.radix(), cap.guard(), cap.guard_size())
+        }
         Kind::Frame => format!("Frame address {} rights {}", address, rights_in_words(cap.rights())),
     }
 }

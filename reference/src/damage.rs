@@ -249,8 +249,16 @@ pub fn unusual(tables: &Tables, state: &State, random: &mut Random) -> Option<Ta
             let row = row_where(state, random, |_| true)?;
             let word = random.pick(&[1, 2, 3, 3, 3, 4, 4, 7])?;
             let old = new.row(row)[word];
-            let value =
-                random.pick(&[old ^ 1, old ^ 2, old + 1, old.wrapping_sub(1), old ^ 16, old ^ 32, old ^ 64, old ^ 4])?;
+            let value = random.pick(&[
+                old ^ 1,
+                old ^ 2,
+                old + 1,
+                old.wrapping_sub(1),
+                old ^ 16,
+                old ^ 32,
+                old ^ 64,
+                old ^ 4,
+            ])?;
             set(&mut new, row, word, value);
         }
     }

@@ -5,7 +5,7 @@ use crate::boot::greatest_r;
 use crate::console::{spaced, Console};
 use crate::damage::{broken, unusual};
 use crate::random::Random;
-use crate::rules::{well_formed, RULES};
+use crate::rules::{well_formed, Rule, RULES};
 use crate::tables::{Cap, Kind, Object, Row, State, Tables, KINDS};
 use std::collections::VecDeque;
 use std::io::{self, Write};
@@ -64,12 +64,13 @@ const SPACED_LINES: [&str; 6] =
 struct Generator<'a, W: Write> {
     random: Random,
     console: Console,
+    episodes: u32,
     out: &'a mut W,
 }
 
 /// Writes console lines with `count` requests.
 pub fn generate(seed: u64, count: u64, out: &mut impl Write) -> io::Result<()> {
-    let mut generator = Generator { random: Random(seed), console: Console::default(), out };
+    let mut generator = Generator { random: Random(seed), console: Console::default(), episodes: 0, out };
     generator.write("# before any boot")?;
     generator.write("show")?;
     generator.write("ask 0 5 0 1 32")?;
@@ -132,7 +133,11 @@ impl<W: Write> Generator<'_, W> {
 
     /// One boot and what follows; gives the requests left.
     fn episode(&mut self, mut left: u64) -> io::Result<u64> {
-        let m = self.random.weighted(&[(48, 10), (14, 11), (12, 12), (14, 13), (6, 14), (4, 15), (2, 16)]);
+        self.episodes += 1;
+        let mut m = self.random.weighted(&[(48, 10), (14, 11), (12, 12), (14, 13), (6, 14), (4, 15), (2, 16)]);
+        if self.episodes % 10 == 0 {
+            m = 10 + self.episodes / 10 % 7;
+        }
         let r = 4 + self.random.below(greatest_r(m) as usize - 3) as u32;
         if self.random.chance(10) {
             let wrong = self.random.pick(&[3, 0, greatest_r(m) + 1, u32::MAX]).unwrap_or(0);
@@ -178,8 +183,14 @@ impl<W: Write> Generator<'_, W> {
     /// Sequences that random requests seldom make: rings of CNodes, an Untyped held in a CNode made from it.
     fn script(&mut self, left: u64) -> io::Result<u64> {
         const SELF: [&str; 4] = ["8 1 4 2 0 0 0 12 2", "3 12 0 2 0 12 32", "5 0 13 32", "6 0 1 32"];
-        const RING: [&str; 6] =
-            ["8 1 4 2 0 0 0 12 2", "1 0 14 32 0 13 32 7", "3 12 0 2 0 13 32", "3 14 1 2 0 12 32", "5 0 14 32", "6 0 1 32"];
+        const RING: [&str; 6] = [
+            "8 1 4 2 0 0 0 12 2",
+            "1 0 14 32 0 13 32 7",
+            "3 12 0 2 0 13 32",
+            "3 14 1 2 0 12 32",
+            "5 0 14 32",
+            "6 0 1 32",
+        ];
         const OWN: [&str; 3] = ["8 1 4 2 0 0 0 12 1", "3 12 0 2 0 1 32", "6 12 0 2"];
         const NESTED: [&str; 6] = [
             "8 1 4 2 0 0 0 12 2",
@@ -218,7 +229,10 @@ impl<W: Write> Generator<'_, W> {
     /// Tables with a broken rule, requests to them, and the tables as they were.
     fn damaged(&mut self, state: &State) -> io::Result<u64> {
         let whole = self.console.tables.clone();
-        let rule = RULES[self.random.below(RULES.len())];
+        let mut rule = RULES[self.random.below(RULES.len())];
+        if state.caps.values().any(|cap| matches!(cap.kind(), Kind::Frame | Kind::Tcb)) && self.random.chance(20) {
+            rule = self.random.pick(&[Rule::FrameRights, Rule::ZeroWord3]).unwrap_or(rule);
+        }
         let new = match broken(rule, &whole, state, &mut self.random) {
             Some(new) => new,
             None => return Ok(0),
@@ -417,7 +431,8 @@ impl<W: Write> Generator<'_, W> {
             (Some(cap), Some(kind)) => cap.kind() == kind,
         };
         let from = self.choose(&from, fits);
-        let mut message = vec![operation, service.address, to.address, to.depth, root.address, from.address, from.depth];
+        let mut message =
+            vec![operation, service.address, to.address, to.depth, root.address, from.address, from.depth];
         if copying {
             message.push(self.rights());
         }
@@ -433,9 +448,8 @@ impl<W: Write> Generator<'_, W> {
         let paths = self.reachable(state, service.row);
         let boot_row = self.random.chance(3);
         let wanted = operation == 6 && self.random.chance(60);
-        let good = |row: Row| {
-            state.occupied(row) && (boot_row || row != Row(0)) && (!wanted || state.has_children(row))
-        };
+        let good =
+            |row: Row| state.occupied(row) && (boot_row || row != Row(0)) && (!wanted || state.has_children(row));
         let target = self.choose(&paths, good);
         vec![operation, service.address, target.address, target.depth]
     }

@@ -97,13 +97,7 @@ fn ends(state: &State, service: Row, root: Row, message: &[u32]) -> Result<(Row,
 }
 
 /// Copy, and Mint with data.
-pub fn copy(
-    state: &mut State,
-    service: Row,
-    root: Row,
-    message: &[u32],
-    data: Option<u32>,
-) -> Result<u32, Answer> {
+pub fn copy(state: &mut State, service: Row, root: Row, message: &[u32], data: Option<u32>) -> Result<u32, Answer> {
     let (destination, source, cap) = ends(state, service, root, message)?;
     let mut copy = masked(cap, message[7]);
     if let Some(data) = data {
@@ -117,13 +111,7 @@ pub fn copy(
 }
 
 /// Move, and Mutate with data.
-pub fn shift(
-    state: &mut State,
-    service: Row,
-    root: Row,
-    message: &[u32],
-    data: Option<u32>,
-) -> Result<u32, Answer> {
+pub fn shift(state: &mut State, service: Row, root: Row, message: &[u32], data: Option<u32>) -> Result<u32, Answer> {
     let (destination, source, cap) = ends(state, service, root, message)?;
     let moved = match data {
         Some(data) => mutated(cap, data)?,

@@ -29,8 +29,7 @@ pub enum Kind {
 }
 
 /// The six kinds by type number.
-pub const KINDS: [Kind; 6] =
-    [Kind::Untyped, Kind::Tcb, Kind::Endpoint, Kind::Notification, Kind::CNode, Kind::Frame];
+pub const KINDS: [Kind; 6] = [Kind::Untyped, Kind::Tcb, Kind::Endpoint, Kind::Notification, Kind::CNode, Kind::Frame];
 
 /// The power of two that each type adds to its size word to give its bytes: a CNode's slots take 2^4 bytes each.
 pub const ADDED_EXPONENT: [u64; 6] = [0, 0, 0, 0, 4, 0];
