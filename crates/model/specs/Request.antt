@@ -27,13 +27,13 @@ use Rattle.model.specs.Operations.{Done, copy, move, rotate, delete, rev
 
 -- ---- the numbers of an answer
 
-unfoldable pub ofFailure : Failure → List ℕ
+abbrev pub ofFailure : Failure → List ℕ
 ofFailure InvalidRoot = 1 ∷ 0 ∷ 0 ∷ 0 ∷ []
 ofFailure (Missing bits) = 2 ∷ bits ∷ 0 ∷ 0 ∷ []
 ofFailure (DepthMismatch bits resolved) = 3 ∷ bits ∷ resolved ∷ 0 ∷ []
 ofFailure (GuardMismatch bits guard size) = 4 ∷ bits ∷ guard ∷ size ∷ []
 
-unfoldable pub sixWords : Answer → List ℕ
+abbrev pub sixWords : Answer → List ℕ
 sixWords (Success count) = 0 ∷ count ∷ 0 ∷ 0 ∷ 0 ∷ 0 ∷ []
 sixWords (InvalidArgument argument) = 1 ∷ argument ∷ 0 ∷ 0 ∷ 0 ∷ 0 ∷ []
 sixWords InvalidCapability = 2 ∷ 0 ∷ 0 ∷ 0 ∷ 0 ∷ 0 ∷ []
