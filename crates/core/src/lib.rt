@@ -1,8 +1,11 @@
 // The core's face: boot, a request, and the six words of an answer.
+mod message;
+
 use model::Answer;
 use model::Failure;
 ghost use mathlib.Core.Path.{_≡_};
 ghost use mathlib.Core.List.{_∷_};
+ghost use Rattle.model.specs.Edition.{edition32};
 ghost use Rattle.model.specs.Request as spec;
 
 // A lookup failure's four words.
