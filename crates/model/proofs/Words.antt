@@ -17,3 +17,4 @@ pub mod Descendants
 pub mod Links
 pub mod Swapped
 pub mod Rotated
+pub mod Booted
