@@ -14,3 +14,7 @@ pub mod Grafted
 pub mod Moved
 pub mod Removed
 pub mod Descendants
+pub mod Links
+pub mod Swapped
+pub mod Rotated
+pub mod Booted
