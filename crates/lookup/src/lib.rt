@@ -64,7 +64,8 @@ pub fn lookup(t: &[u32], root: Cap, address: u32, depth: u32) -> Looked
             });
         }
         let first = row_of(node.address);
-        let row = first.0 + field(address, left - node.fourth, node.size);
+        let unguarded = left - node.fourth;
+        let row = first.0 + field(address, unguarded, node.size);
         let slot = Row(row);
         if left == taken {
             return Looked::Slot(slot);
