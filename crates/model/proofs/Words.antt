@@ -16,5 +16,6 @@ pub mod Removed
 pub mod Descendants
 pub mod Links
 pub mod Swapped
+pub mod Exchanged
 pub mod Rotated
 pub mod Booted

@@ -4,15 +4,15 @@ use mathlib.Core.Path.{_≡_, refl, sym, ap, _∙_, subst}
 use mathlib.Core.List.{List, [], _∷_, _++_}
 use native.Mathlib.Omega.{arith}
 use lib.ListN.{getD, set}
+use Rattle.model.specs.declared.Cap.{Cap}
+use Rattle.model.specs.Edition.{Edition}
+use Rattle.model.specs.Tables.{Listed, word, cells, firstOf, zeroRow}
+use Rattle.model.specs.Stores.{linked, unlinked, recapped}
 use Rattle.model.proofs.Members.{All, all-map}
 use Rattle.model.proofs.Distinct.{Fresh, Distinct}
 use Rattle.model.proofs.Words.Rows.{rowAt, rowsIn, Holds, Written}
 use Rattle.model.proofs.Words.Stores.{length-stored, row-stored-other, row-stored-same, relinked-long, relinked-other, relinked-row, relinked-next, relinked-last}
-use Rattle.model.proofs.Words.Edits.{fresh-post, not-first, Inserted, insert-written, first-written, Removed, remove-written, Changed, change-written}
-use Rattle.model.specs.Edition.{Edition}
-use Rattle.model.specs.declared.Cap.{Cap}
-use Rattle.model.specs.Stores.{linked, unlinked, recapped}
-use Rattle.model.specs.Tables.{Listed, word, cells, firstOf, zeroRow}
+use Rattle.model.proofs.Words.Edits.{fresh-post, not-first, Inserted, insert-written, Removed, remove-written, Changed, change-written}
 
 -- ---- the words of x in the middle of a list
 
@@ -42,7 +42,6 @@ middle-fresh (p ∷ pre) x post d = middle-fresh pre x post (d .1)
 
 module _ (E : Edition) (n : ℕ) (room : n ≤ E .none) (t : List ℕ) (pre : List Listed) (x : Listed) (post : List Listed)
     (below : All (λ k. k < n) (rowsIn (pre ++ x ∷ post))) (d : Distinct (rowsIn (pre ++ x ∷ post))) (w : Written E n t (pre ++ x ∷ post)) where
-
   pub words : rowAt t (x .entry .row) ≡ cells x (lastOf (E .none) pre) (firstOf E post)
   words = holds-middle E (rowAt t) (E .none) pre x post (w .holds)
 
@@ -80,15 +79,15 @@ module _ (E : Edition) (n : ℕ) (room : n ≤ E .none) (t : List ℕ) (pre : Li
 
       edit : Inserted E n (rowAt t) (rowAt (linked t k next y)) x x y post
       edit =
-          record
-          { row = refl
-          ; atOld =
-              relinked-next n t to (cells y k next) k to next to (w .long) (omega arith) (middle-below n pre x post below) (λ e. k-not (sym e)) next-not
-              ∙ ap (λ (r : List ℕ). set r 5 to) words
-              ∙ ap (λ (b : ℕ). cells x b to) (sym last-is)
-          ; atNew = relinked-row n t to (cells y k next) k to next to (w .long) (omega arith) l k-not next-no
-          ; atNext = λ h. relinked-last n t to (cells y k next) k to next to (w .long) (omega arith) h (λ e. next-no (sym e)) (λ e. next-not (sym e))
-          ; others = λ j h nk nt nn. relinked-other n t to (cells y k next) k to next to (w .long) (omega arith) j nt nk nn
+          record {
+            row = refl;
+            atOld =
+                relinked-next n t to (cells y k next) k to next to (w .long) (omega arith) (middle-below n pre x post below) (λ e. k-not (sym e)) next-not
+                ∙ ap (λ (r : List ℕ). set r 5 to) words
+                ∙ ap (λ (b : ℕ). cells x b to) (sym last-is);
+            atNew = relinked-row n t to (cells y k next) k to next to (w .long) (omega arith) l k-not next-no;
+            atNext = λ h. relinked-last n t to (cells y k next) k to next to (w .long) (omega arith) h (λ e. next-no (sym e)) (λ e. next-not (sym e));
+            others = λ j h nk nt nn. relinked-other n t to (cells y k next) k to next to (w .long) (omega arith) j nt nk nn;
           }
 
   pub unlink-written : Written E n (unlinked t (x .entry .row) (lastOf (E .none) pre) (firstOf E post)) (pre ++ post)
@@ -116,12 +115,12 @@ module _ (E : Edition) (n : ℕ) (room : n ≤ E .none) (t : List ℕ) (pre : Li
 
       edit : Removed E n room (rowAt t) (rowAt (unlinked t k last next)) x post last
       edit =
-          record
-          { known = last-is
-          ; atOld = relinked-row n t k zs last next next last (w .long) (omega arith) (middle-below n pre x post below) (λ e. last-no .0 (sym e)) next-not
-          ; atLast = λ h. relinked-next n t k zs last next next last (w .long) (omega arith) h (last-no .0) (apart h)
-          ; atNext = λ h. relinked-last n t k zs last next next last (w .long) (omega arith) h (λ e. next-not (sym e)) (λ e. apart (subst (λ (j : ℕ). j < n) (sym e) h) (sym e))
-          ; others = λ j h nk nl nn. relinked-other n t k zs last next next last (w .long) (omega arith) j nk nl nn
+          record {
+            known = last-is;
+            atOld = relinked-row n t k zs last next next last (w .long) (omega arith) (middle-below n pre x post below) (λ e. last-no .0 (sym e)) next-not;
+            atLast = λ h. relinked-next n t k zs last next next last (w .long) (omega arith) h (last-no .0) (apart h);
+            atNext = λ h. relinked-last n t k zs last next next last (w .long) (omega arith) h (λ e. next-not (sym e)) (λ e. apart (subst (λ (j : ℕ). j < n) (sym e) h) (sym e));
+            others = λ j h nk nl nn. relinked-other n t k zs last next next last (w .long) (omega arith) j nk nl nn;
           }
 
   pub recap-written : (c : Cap) → Written E n (recapped t (x .entry .row) c) (pre ++ record { entry = record { row = x .entry .row; cap = c }; depth = x .depth } ∷ post)
@@ -136,31 +135,8 @@ module _ (E : Edition) (n : ℕ) (room : n ≤ E .none) (t : List ℕ) (pre : Li
 
       edit : Changed E n room (rowAt t) (rowAt (recapped t k c)) x (record { entry = record { row = k; cap = c }; depth = x .depth })
       edit =
-          record
-          { row = refl
-          ; atOld = row-stored-same n cs t k 0 (w .long) (middle-below n pre x post below) (omega arith) ∙ ap (λ (z : ℕ). c .kind ∷ c .address .0 ∷ c .size ∷ c .third ∷ c .fourth ∷ word t k 5 ∷ word t k 6 ∷ z ∷ []) depth-is
-          ; others = λ j h nk. row-stored-other cs t k 0 j (omega arith) (λ e. nk (sym e))
+          record {
+            row = refl;
+            atOld = row-stored-same n cs t k 0 (w .long) (middle-below n pre x post below) (omega arith) ∙ ap (λ (z : ℕ). c .kind ∷ c .address .0 ∷ c .size ∷ c .third ∷ c .fourth ∷ word t k 5 ∷ word t k 6 ∷ z ∷ []) depth-is;
+            others = λ j h nk. row-stored-other cs t k 0 j (omega arith) (λ e. nk (sym e));
           }
-
--- y put in before all others: what `linked` stores after the word for "no row"
-pub link-first-written : (E : Edition) (n : ℕ) → n ≤ E .none → (t : List ℕ) (xs : List Listed) (y : Listed)
-    → All (λ k. k < n) (rowsIn xs) → Distinct (rowsIn xs) → Fresh (y .entry .row) (rowsIn xs) → y .entry .row < n
-    → Written E n t xs → Written E n (linked t (E .none) (firstOf E xs) y) (y ∷ xs)
-link-first-written E n room t xs y below d f l w =
-    first-written E n room t (linked t (E .none) next y) y xs (relinked-long n t to ws (E .none) to next to (w .long) (omega arith))
-      (relinked-row n t to ws (E .none) to next to (w .long) (omega arith) l (λ e. omega arith) next-no)
-      (λ h. relinked-last n t to ws (E .none) to next to (w .long) (omega arith) h (λ e. next-no (sym e)) (λ e. omega arith))
-      (λ j h nt nt' nn. relinked-other n t to ws (E .none) to next to (w .long) (omega arith) j nt (λ e. omega arith) nn)
-      below d f w
-  where
-    to : ℕ
-    to = y .entry .row
-
-    next : ℕ
-    next = firstOf E xs
-
-    ws : List ℕ
-    ws = cells y (E .none) next
-
-    next-no : next ≡ to → ⊥
-    next-no = not-first E n to xs room l f

@@ -6,9 +6,9 @@ use mathlib.Core.List.{List, [], _∷_, _++_, append-assoc, append-nil}
 use native.Mathlib.Omega.{arith}
 use lib.Dec.{ltb}
 use borrow.Author.Tests.{lt-ltb, le-ltb, eq-eqb, ne-eqb}
-use Rattle.model.proofs.Distinct.{Order, less, same, more, order}
 use Rattle.model.specs.Tree.{Forest, end, tree}
 use Rattle.model.specs.Tables.{Listed, listing, grown, later}
+use Rattle.model.proofs.Distinct.{Order, less, same, more, order}
 
 -- ---- from the forest
 

@@ -9,11 +9,11 @@ use lib.Dec.{eqb, lit<}
 use lib.ListN.{length, getD, length-append, List·getD-append}
 use lib.Seq.{getD-append-add, ext-getD}
 use borrow.Author.Tests.{eq-eqb, ne-eqb, eqb-true, eqb-false}
+use Rattle.model.specs.declared.Cap.{Cap}
+use Rattle.model.specs.Edition.{Edition}
+use Rattle.model.specs.Tables.{Listed, word, capOf, cells, firstOf, zeroRow, rowOf, rowsFrom, follow}
 use Rattle.model.proofs.Members.{All, all-map}
 use Rattle.model.proofs.Distinct.{Fresh, Distinct}
-use Rattle.model.specs.Edition.{Edition}
-use Rattle.model.specs.declared.Cap.{Cap}
-use Rattle.model.specs.Tables.{Listed, word, capOf, cells, firstOf, zeroRow, rowOf, rowsFrom, follow}
 
 -- ---- eight words
 
