@@ -1,4 +1,5 @@
--- A row's descendants are the unbroken run after it with greater depth.
+-- A row's descendants are the unbroken run after it with greater depth, so the words of a table tell whether it has children and which rows
+-- are below it.
 use Prim.Native.Nat.{ℕ, _+_, _*_, _≤_, _<_, zero, suc}
 use mathlib.Core.Path.{_≡_, refl, sym, ap, _∙_, subst}
 use mathlib.Core.Bool.{Bool, false, cond, _&&_}

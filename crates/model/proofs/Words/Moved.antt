@@ -1,4 +1,4 @@
--- The tables of a state after an entry of its tree is given another row, as Move does.
+-- The tables of a state after an entry of its tree is given another row, as Move does: the new row is linked after the old, which is unlinked.
 use Prim.Native.Nat.{ℕ, _<_}
 use mathlib.Core.Path.{_≡_, refl, sym, ap, ap₂, _∙_, subst}
 use mathlib.Core.Bool.{cond}
