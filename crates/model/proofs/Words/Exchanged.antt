@@ -68,6 +68,13 @@ module _ (a b : ℕ) (apart : a ≡ b → ⊥) (c d : Cap) (E : Edition) (n : �
   )
 
   module _ (t : List ℕ) (xs : List Listed) (low : All (λ k. k < n) (rowsIn xs)) (dis : Distinct (rowsIn xs)) (w : Written E n t xs) (ha : Has a (rowsIn xs)) (hb : Has b (rowsIn xs)) where
+    -- what row b and row a hold in the end
+    abbrev inRight : Listed
+    inRight = record { entry = record { row = b; cap = d }; depth = word t a 7 }
+
+    abbrev inLeft : Listed
+    inLeft = record { entry = record { row = a; cap = c }; depth = word t b 7 }
+
     -- the links of the table, each with its way back
     forward : (j k : ℕ) → Has j (rowsIn xs) → k < n → word t j 5 ≡ k → word t k 6 ≡ j
     forward j k m l = next-back E (rowAt t) (E .none) xs (w .holds) j k m (λ e. omega arith)
@@ -82,30 +89,30 @@ module _ (a b : ℕ) (apart : a ≡ b → ⊥) (c d : Cap) (E : Edition) (n : �
     not-after k m l q = not-before k m (forward k k m l q)
 
     once : List ℕ
-    once = linked t (swapped a b (word t a 6)) (swapped a b (word t a 5)) (record { entry = record { row = b; cap = d }; depth = word t a 7 })
+    once = linked t (swapped a b (word t a 6)) (swapped a b (word t a 5)) inRight
 
     once-long : length once ≡ 8 * n
     unfolding once
     once-long =
-        relinked-long n t b (cells (record { entry = record { row = b; cap = d }; depth = word t a 7 }) (swapped a b (word t a 6)) (swapped a b (word t a 5))) (swapped a b (word t a 6)) b (swapped a b (word t a 5)) b (w .long) (omega arith)
+        relinked-long n t b (cells inRight (swapped a b (word t a 6)) (swapped a b (word t a 5))) (swapped a b (word t a 6)) b (swapped a b (word t a 5)) b (w .long) (omega arith)
         ∙ w .long
 
-    row-left : rowAt (exchangedTable t a b c d) a ≡ cells (record { entry = record { row = a; cap = c }; depth = word t b 7 }) (swapped a b (word t b 6)) (swapped a b (word t b 5))
+    row-left : rowAt (exchangedTable t a b c d) a ≡ cells inLeft (swapped a b (word t b 6)) (swapped a b (word t b 5))
     unfolding once
     row-left =
-        relinked-row n once a (cells (record { entry = record { row = a; cap = c }; depth = word t b 7 }) (swapped a b (word t b 6)) (swapped a b (word t b 5))) (swapped a b (word t b 6)) a (swapped a b (word t b 5)) a once-long (omega arith) la
+        relinked-row n once a (cells inLeft (swapped a b (word t b 6)) (swapped a b (word t b 5))) (swapped a b (word t b 6)) a (swapped a b (word t b 5)) a once-long (omega arith) la
         (λ e. not-before b hb (swapped-back a b apart a (word t b 6) e ∙ swapped-left a b))
         (λ e. not-after b hb lb (swapped-back a b apart a (word t b 5) e ∙ swapped-left a b))
 
-    row-right : rowAt (exchangedTable t a b c d) b ≡ cells (record { entry = record { row = b; cap = d }; depth = word t a 7 }) (swapped a b (word t a 6)) (swapped a b (word t a 5))
+    row-right : rowAt (exchangedTable t a b c d) b ≡ cells inRight (swapped a b (word t a 6)) (swapped a b (word t a 5))
     unfolding once
     row-right =
-        row-linked n once (swapped a b (word t b 6)) (swapped a b (word t b 5)) (record { entry = record { row = a; cap = c }; depth = word t b 7 }) b once-long lb (λ e. apart (sym e))
+        row-linked n once (swapped a b (word t b 6)) (swapped a b (word t b 5)) inLeft b once-long lb (λ e. apart (sym e))
         ∙ ap (λ (r : List ℕ). storedIf (eqb (swapped a b (word t b 5)) b) 6 a (storedIf (eqb (swapped a b (word t b 6)) b) 5 a r))
-        (relinked-row n t b (cells (record { entry = record { row = b; cap = d }; depth = word t a 7 }) (swapped a b (word t a 6)) (swapped a b (word t a 5))) (swapped a b (word t a 6)) b (swapped a b (word t a 5)) b (w .long) (omega arith) lb
+        (relinked-row n t b (cells inRight (swapped a b (word t a 6)) (swapped a b (word t a 5))) (swapped a b (word t a 6)) b (swapped a b (word t a 5)) b (w .long) (omega arith) lb
         (λ e. not-before a ha (swapped-back a b apart b (word t a 6) e ∙ swapped-right a b apart))
         (λ e. not-after a ha la (swapped-back a b apart b (word t a 5) e ∙ swapped-right a b apart)))
-        ∙ stored-already (eqb (swapped a b (word t b 6)) b) (eqb (swapped a b (word t b 5)) b) (record { entry = record { row = b; cap = d }; depth = word t a 7 }) (swapped a b (word t a 6)) (swapped a b (word t a 5)) a
+        ∙ stored-already (eqb (swapped a b (word t b 6)) b) (eqb (swapped a b (word t b 5)) b) inRight (swapped a b (word t a 6)) (swapped a b (word t a 5)) a
         (λ e. ap (swapped a b) (backward a b hb la (swapped-back a b apart b (word t b 6) (eqb-true (swapped a b (word t b 6)) b e) ∙ swapped-right a b apart)) ∙ swapped-right a b apart)
         (λ e. ap (swapped a b) (forward b a hb la (swapped-back a b apart b (word t b 5) (eqb-true (swapped a b (word t b 5)) b e) ∙ swapped-right a b apart)) ∙ swapped-right a b apart)
 
@@ -115,9 +122,9 @@ module _ (a b : ℕ) (apart : a ≡ b → ⊥) (c d : Cap) (E : Edition) (n : �
         ≡ storedIf (eqb (word t b 5) j) 6 a (storedIf (eqb (word t b 6) j) 5 a (storedIf (eqb (word t a 5) j) 6 b (storedIf (eqb (word t a 6) j) 5 b (rowAt t j))))
     unfolding once
     row-else j l na nb =
-        row-linked n once (swapped a b (word t b 6)) (swapped a b (word t b 5)) (record { entry = record { row = a; cap = c }; depth = word t b 7 }) j once-long l na
+        row-linked n once (swapped a b (word t b 6)) (swapped a b (word t b 5)) inLeft j once-long l na
         ∙ ap (λ (r : List ℕ). storedIf (eqb (swapped a b (word t b 5)) j) 6 a (storedIf (eqb (swapped a b (word t b 6)) j) 5 a r))
-        (row-linked n t (swapped a b (word t a 6)) (swapped a b (word t a 5)) (record { entry = record { row = b; cap = d }; depth = word t a 7 }) j (w .long) l nb)
+        (row-linked n t (swapped a b (word t a 6)) (swapped a b (word t a 5)) inRight j (w .long) l nb)
         ∙ (λ i. storedIf (same (word t b 5) i) 6 a (storedIf (same (word t b 6) i) 5 a (storedIf (same (word t a 5) i) 6 b (storedIf (same (word t a 6) i) 5 b (rowAt t j)))))
       where
         same : (k : ℕ) → eqb (swapped a b k) j ≡ eqb k j
@@ -173,7 +180,7 @@ module _ (a b : ℕ) (apart : a ≡ b → ⊥) (c d : Cap) (E : Edition) (n : �
     exchange-written =
         record {
           long =
-              relinked-long n once a (cells (record { entry = record { row = a; cap = c }; depth = word t b 7 }) (swapped a b (word t b 6)) (swapped a b (word t b 5))) (swapped a b (word t b 6)) a (swapped a b (word t b 5)) a once-long (omega arith)
+              relinked-long n once a (cells inLeft (swapped a b (word t b 6)) (swapped a b (word t b 5))) (swapped a b (word t b 6)) a (swapped a b (word t b 5)) a once-long (omega arith)
               ∙ once-long;
           holds =
               subst (λ (k : ℕ). Holds E (rowAt (exchangedTable t a b c d)) k (map (turned a b c d) xs)) none-stays
