@@ -3,6 +3,7 @@ use model::Cap;
 use model::Failure;
 use model::Looked;
 use model::Row;
+use table::CNODE;
 use table::cap_at;
 use table::row_of;
 use table::size::pow2;
@@ -15,8 +16,6 @@ ghost use Rattle.model.specs.Cap.{isCNode};
 ghost use Rattle.model.specs.Tables as tables;
 ghost use Rattle.model.specs.Lookup as spec;
 ghost use Rattle.lookup.specs.Ready.{Ready, Usable};
-
-const CNODE: u32 = 5;
 
 // Of the low `left` bits of an address, the top `n`.
 pub fn field(address: u32, left: u32, n: u32) -> u32
