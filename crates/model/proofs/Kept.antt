@@ -1,0 +1,5 @@
+pub mod Powers
+pub mod Figures
+pub mod Forests
+pub mod Objects
+pub mod Families
