@@ -52,9 +52,9 @@ module _ (E : Edition) where
     pub each : (d : Cap) → Has d cs → Child E c d
     pub pairs : pairwise E cs ≡ true
 
-  pub kids : (c : Cap) (cs : List Cap) → childrenAllowed E c cs ≡ true → Kids c cs
+  pub kids-of : (c : Cap) (cs : List Cap) → childrenAllowed E c cs ≡ true → Kids c cs
   unfolding childrenAllowed
-  kids c cs h = either (isUntyped c) (λ t. untyped t (rw t at h)) (λ f. typed f (rw f at h))
+  kids-of c cs h = either (isUntyped c) (λ t. untyped t (rw t at h)) (λ f. typed f (rw f at h))
     where
       untyped : isUntyped c ≡ true → (all (insideBelow E c) cs && pairwise E cs) ≡ true → Kids c cs
       untyped t h =
@@ -95,7 +95,7 @@ module _ (E : Edition) where
       let x = childrenAllowed E (e .cap) (roots b) in
       let y = familiesAllowed E b in
       let z = familiesAllowed E a in
-      record { kids = kids (e .cap) (roots b) (and-left x y (and-left (x && y) z h)); inside = and-right x y (and-left (x && y) z h); beside = and-right (x && y) z h }
+      record { kids = kids-of (e .cap) (roots b) (and-left x y (and-left (x && y) z h)); inside = and-right x y (and-left (x && y) z h); beside = and-right (x && y) z h }
 
   pub of-family : (e : Entry) (b a : Forest) → Family e b a → familiesAllowed E (tree e b a) ≡ true
   unfolding familiesAllowed

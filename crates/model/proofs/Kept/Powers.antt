@@ -1,7 +1,7 @@
 -- Powers of two and alignment, over the exponent.
 use Prim.Native.Nat.{_%_, _*_, _+_, _-_, _/_, _<_, _^_, _≤_, suc, ℕ}
 use mathlib.Core.Path.{_∙_, _≡_, ap, sym}
-use native.Mathlib.Nat.{add-mul, div-add-mod', div-lt-iff-lt-mul, le-div-iff-mul-le, lt-div-mul-add, mul-assoc, mul-le-mul-right, mul-mod-left, sub-add-cancel, suc-mul}
+use native.Mathlib.Nat.{add-mul, div-add-mod', div-lt-iff-lt-mul, le-div-iff-mul-le, lt-div-mul-add, mul-assoc, mul-div-cancel, mul-le-mul-right, mul-mod-left, sub-add-cancel, suc-mul}
 use native.Mathlib.Omega.{arith}
 use lib.Dec.{leb}
 use lib.Pow.{pow-add, pow-lt, pow-pos}
@@ -26,6 +26,11 @@ multiple b e a l al =
     let q = div-add-mod' a (2 ^ b) in
     let w : a / 2 ^ b * 2 ^ b ≡ a / 2 ^ b * 2 ^ (b - e) * 2 ^ e = ap (λ n. a / 2 ^ b * n) (split b e l) ∙ sym (mul-assoc (a / 2 ^ b) (2 ^ (b - e)) (2 ^ e)) in
     omega arith
+
+pub exact : (b e a : ℕ) → e ≤ b → a % 2 ^ b ≡ 0 → a / 2 ^ e * 2 ^ e ≡ a
+exact b e a l al =
+    let w = multiple b e a l al in
+    ap (λ n. n / 2 ^ e * 2 ^ e) w ∙ ap (λ n. n * 2 ^ e) (mul-div-cancel (a / 2 ^ b * 2 ^ (b - e)) (pow-pos e)) ∙ sym w
 
 -- an address aligned to 2^b, and multiples of 2^e, e ≤ b
 pub aligned-sum : (b e a t j : ℕ) → e ≤ b → a % 2 ^ b ≡ 0 → (a + t * 2 ^ e + j * 2 ^ e) % 2 ^ e ≡ 0
