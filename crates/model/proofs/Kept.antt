@@ -9,3 +9,9 @@ pub mod Removal
 pub mod Edits
 pub mod Rules
 pub mod Staying
+pub mod Checks
+pub mod Deals
+pub mod Changes
+pub mod Moving
+pub mod Growing
+pub mod Copying

@@ -2,7 +2,7 @@
 -- new is allowed, in a home and in rows of its own, and the new leaves go with the children that are there.
 use Prim.Native.Nat.{ℕ}
 use mathlib.Core.Bool.{Bool, _&&_, false, true}
-use mathlib.Core.List.{List, List·Memᴰ·head, [], _++_, _∷_, map}
+use mathlib.Core.List.{List, List·Memᴰ·eq-of-singleton, List·Memᴰ·head, [], _++_, _∷_, map}
 use mathlib.Core.Path.{_∙_, _≡_, ap, ap₂, refl, sym}
 use native.Mathlib.Omega.{arith}
 use Rattle.model.specs.declared.Cap.{Cap}
@@ -18,7 +18,7 @@ use Rattle.model.proofs.State.{Fine, Sound}
 use Rattle.model.proofs.Kept.Edits.{entries-edit, has-spread, left, rowsIn, spread, spread-distinct, spread-has}
 use Rattle.model.proofs.Kept.Families.{Family, Kids, family, kids-of, no-kids, of-family, of-kids}
 use Rattle.model.proofs.Kept.Figures.{Sane}
-use Rattle.model.proofs.Kept.Forests.{At, Every, after, every-of, here, under}
+use Rattle.model.proofs.Kept.Forests.{At, Every, after, at-has, every-of, here, under}
 use Rattle.model.proofs.Kept.Objects.{Alike, Same, inside-parts, parts-inside, parts-same, same-apart, same-houses, same-inside, same-object, same-sym, same-trans, same-untyped}
 use Rattle.model.proofs.Kept.Rules.{fine, home, home-bound, home-of}
 
@@ -164,3 +164,14 @@ module _ {E : Edition} (sane : Sane E) {m : ℕ} {f : Forest} (s : Sound E m f) 
         families = families-stay E act h new is f (s .families) sames room;
         pairs = sym (match-pairs E (roots f) (roots (edit act f)) (roots-match E act h new is f sames)) ∙ s .pairs;
       }
+
+-- the same without new leaves
+module _ {E : Edition} (sane : Sane E) {m : ℕ} {f : Forest} (s : Sound E m f) (act : Entry → Deed) (h : Entry → Entry) (is : (e : Entry) → act e ≡ stays (h e) [])
+  (alike : (e : Entry) → Has e (entries f) → Alike (e .cap) (h e .cap))
+  (good : (e : Entry) → Has e (entries f) → Placed E m f (h e))
+  (inject : (e d : Entry) → Has e (entries f) → Has d (entries f) → h e .row ≡ h d .row → e .row ≡ d .row) where
+  pub sound-each : Sound E m (edit act f)
+  sound-each =
+      sound-stays sane s act h (λ e. []) is (λ e p. alike e p .same) (λ e p. (good e p, tt)) (λ e p. (tt, tt))
+        (λ e d x y p q k l z. inject e d p q (ap (λ u. u .row) (sym (List·Memᴰ·eq-of-singleton k)) ∙ z ∙ ap (λ u. u .row) (List·Memᴰ·eq-of-singleton l)))
+        (λ x b i cs k none. alike-kids E cs (alike x (at-has i)) k)
