@@ -15,3 +15,5 @@ pub mod Changes
 pub mod Moving
 pub mod Growing
 pub mod Copying
+pub mod NewObjects
+pub mod Retyping
