@@ -17,3 +17,6 @@ pub mod Growing
 pub mod Copying
 pub mod NewObjects
 pub mod Retyping
+pub mod Lookups
+pub mod Walk
+pub mod Serving

@@ -100,8 +100,8 @@ module _ (E : Edition) (m : ℕ) where
       let b = mod-le g (2 ^ n) in
       let d = mod-lt (datum / 2 ^ E .guardSizeBits) (pow-pos (E .guardBits)) in
       rw k (either (leb (E .guardBits) n)
-        (λ u. rw (min-eq-left (leb-true (E .guardBits) n u)) (lt-ltb (g % 2 ^ n) (2 ^ E .guardBits) (omega arith)))
-        (λ u. let v = leb-false (E .guardBits) n u in let w : n ≤ E .guardBits = omega arith in rw (min-eq-right w) (lt-ltb (g % 2 ^ n) (2 ^ n) a)))
+      (λ u. rw (min-eq-left (leb-true (E .guardBits) n u)) (lt-ltb (g % 2 ^ n) (2 ^ E .guardBits) (omega arith)))
+      (λ u. let v = leb-false (E .guardBits) n u in let w : n ≤ E .guardBits = omega arith in rw (min-eq-right w) (lt-ltb (g % 2 ^ n) (2 ^ n) a)))
 
   guard-fourth : (c : Cap) (datum : ℕ) → isCNode c ≡ true → guardSizeIn E datum + c .size ≤ E .bits → fourthAllowed E (withGuard E c datum) ≡ true
   unfolding fourthAllowed withGuard withThird withFourth isCNode
@@ -125,9 +125,9 @@ module _ (E : Edition) (m : ℕ) where
       either (isCNode c)
       (λ t. rw t (made-typed c (withGuard E c datum) (guard-same E c datum) (cnode-typed c t) (λ a. (guard-third c datum t, guard-fourth c datum t (ltb-false (E .bits) (guardSizeIn E datum + c .size) (rw t at h))))))
       (λ n. rw n (either (hasBadge c)
-        (λ t. rw t (made-typed c (withThird c (datum % 2 ^ E .badgeBits)) (third-same c (datum % 2 ^ E .badgeBits)) (badge-typed c t)
-          (λ a. (badge-third c datum (badge-typed c t) n t, badge-fourth c (datum % 2 ^ E .badgeBits) (fourth-of E m c a)))))
-        (λ u. rw u (made-self c))))
+      (λ t. rw t (made-typed c (withThird c (datum % 2 ^ E .badgeBits)) (third-same c (datum % 2 ^ E .badgeBits)) (badge-typed c t)
+      (λ a. (badge-third c datum (badge-typed c t) n t, badge-fourth c (datum % 2 ^ E .badgeBits) (fourth-of E m c a)))))
+      (λ u. rw u (made-self c))))
 
   pub datum-made : (b : Bool) (datum : ℕ) (c : Cap) → Passes (Made E m c) (withDatum E b datum c)
   unfolding withDatum

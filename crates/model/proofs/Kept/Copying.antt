@@ -51,7 +51,7 @@ module _ {E : Edition} (sane : Sane E) (m : ℕ) where
   full-allowed c h =
       either (isUntyped c)
       (λ t. rw t (marked-allowed c (bytes E c) t
-        (ap (λ n. n % 16) (bytes-untyped sane c t ∙ sym (one-mul (2 ^ c .size))) ∙ coarse 4 (c .size) 1 (let l = untyped-size E m c h t .0 in let z = sane .least in omega arith)) (omega arith) h))
+      (ap (λ n. n % 16) (bytes-untyped sane c t ∙ sym (one-mul (2 ^ c .size))) ∙ coarse 4 (c .size) 1 (let l = untyped-size E m c h t .0 in let z = sane .least in omega arith)) (omega arith) h))
       (λ f. rw f h)
 
   fresh-allowed : (c : Cap) → capAllowed E m c ≡ true → capAllowed E m (fresh c) ≡ true
@@ -89,12 +89,12 @@ module _ {E : Edition} (sane : Sane E) (m : ℕ) where
 
 module _ {E : Edition} (sane : Sane E) {m : ℕ} {f : Forest} (s : Sound E m f) where
   pub copied-sound : {from to : ℕ} {c : Cap} → Taken E f (home E f) from to c → (isUntyped c && hasChildren f from) ≡ false →
-    Sound E m (edit (graft from (full E) (record { row = to; cap = fresh c } ∷ [])) f)
+      Sound E m (edit (graft from (full E) (record { row = to; cap = fresh c } ∷ [])) f)
   copied-sound {from} {to} {c} t r =
       grafted-sound sane s from (full E) (record { row = to; cap = fresh c } ∷ []) (full-same sane m) (full-allowed sane m (capAt f from))
-        (record { filled = sym (same-empty (fresh-same sane m c)) ∙ made-filled w (t .present); allowed = fresh-allowed sane m c (w .allowed (allowed-at s from (t .present))); homed = t .into }, tt)
-        (tt, tt) (t .vacant, tt)
-        (λ cs k none. copy-room sane m (capAt f from) c cs (w .alike) k (λ u. none (rw (sym (same-untyped (w .alike .same)) ∙ u) at r)))
+      (record { filled = sym (same-empty (fresh-same sane m c)) ∙ made-filled w (t .present); allowed = fresh-allowed sane m c (w .allowed (allowed-at s from (t .present))); homed = t .into }, tt)
+      (tt, tt) (t .vacant, tt)
+      (λ cs k none. copy-room sane m (capAt f from) c cs (w .alike) k (λ u. none (rw (sym (same-untyped (w .alike .same)) ∙ u) at r)))
     where
       w : Made E m (capAt f from) c
       w = taken-made sane s t

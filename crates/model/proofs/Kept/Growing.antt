@@ -32,12 +32,12 @@ newAt : ℕ → List Entry → Entry → List Entry
 newAt k new e = cond (eqb (e .row) k) new []
 
 module _ {E : Edition} (sane : Sane E) {m : ℕ} {f : Forest} (s : Sound E m f) (k : ℕ) (fn : Cap → Cap) (new : List Entry)
-  (same : (c : Cap) → Same c (fn c))
-  (changed : capAllowed E m (capAt f k) ≡ true → capAllowed E m (fn (capAt f k)) ≡ true)
-  (good : All (Placed E m f) new)
-  (distinct : Distinct (rowsIn new))
-  (vacant : All (λ y. isEmpty (capAt f (y .row)) ≡ true) new)
-  (room : (cs : List Cap) → Kids E (capAt f k) cs → (hasChildren f k ≡ false → cs ≡ []) → Kids E (fn (capAt f k)) (capsOf new ++ cs)) where
+    (same : (c : Cap) → Same c (fn c))
+    (changed : capAllowed E m (capAt f k) ≡ true → capAllowed E m (fn (capAt f k)) ≡ true)
+    (good : All (Placed E m f) new)
+    (distinct : Distinct (rowsIn new))
+    (vacant : All (λ y. isEmpty (capAt f (y .row)) ≡ true) new)
+    (room : (cs : List Cap) → Kids E (capAt f k) cs → (hasChildren f k ≡ false → cs ≡ []) → Kids E (fn (capAt f k)) (capsOf new ++ cs)) where
   row-same : (e : Entry) → changedAt k fn e .row ≡ e .row
   unfolding changedAt
   row-same e = either (eqb (e .row) k) (λ t. rw t) (λ n. rw n)
@@ -72,18 +72,18 @@ module _ {E : Edition} (sane : Sane E) {m : ℕ} {f : Forest} (s : Sound E m f) 
   rooms x b i cs h none =
       either (eqb (x .row) k)
       (λ t. rw t (subst (λ c. Kids E (fn c) (capsOf new ++ cs)) (cap-is (at-has i) t) (room cs (subst (λ c. Kids E c cs) (sym (cap-is (at-has i) t)) h)
-        (λ g. none (childless i (subst (λ j. isTree (below f j) ≡ false) (sym (eqb-true (x .row) k t)) (unfold hasChildren in g)))))))
+      (λ g. none (childless i (subst (λ j. isTree (below f j) ≡ false) (sym (eqb-true (x .row) k t)) (unfold hasChildren in g)))))))
       (λ n. rw n h)
 
   pub grafted-sound : Sound E m (edit (graft k fn new) f)
   grafted-sound =
       sound-stays sane s (graft k fn new) (changedAt k fn) (newAt k new) is
-        (λ e p. unfold changedAt in either (eqb (e .row) k) (λ t. rw t (same (e .cap))) (λ n. rw n (self (e .cap))))
-        (λ e p. unfold changedAt newAt in either (eqb (e .row) k) (λ t. rw t (one e p t, good)) (λ n. rw n (placed s p, tt)))
-        (λ e p. unfold changedAt newAt in either (eqb (e .row) k)
-          (λ t. rw t (all-from (λ j. j ≡ e .row → ⊥) (rowsIn new) (λ j n z. let (y, l, q) = has-map (λ y. y .row) new n in old-new p l (sym z ∙ sym q)), distinct))
-          (λ n. rw n (tt, tt)))
-        inject rooms
+      (λ e p. unfold changedAt in either (eqb (e .row) k) (λ t. rw t (same (e .cap))) (λ n. rw n (self (e .cap))))
+      (λ e p. unfold changedAt newAt in either (eqb (e .row) k) (λ t. rw t (one e p t, good)) (λ n. rw n (placed s p, tt)))
+      (λ e p. unfold changedAt newAt in either (eqb (e .row) k)
+      (λ t. rw t (all-from (λ j. j ≡ e .row → ⊥) (rowsIn new) (λ j n z. let (y, l, q) = has-map (λ y. y .row) new n in old-new p l (sym z ∙ sym q)), distinct))
+      (λ n. rw n (tt, tt)))
+      inject rooms
     where
       one : (e : Entry) → Has e (entries f) → eqb (e .row) k ≡ true → Placed E m f (record { row = e .row; cap = fn (e .cap) })
       one e p t =

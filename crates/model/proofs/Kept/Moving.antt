@@ -43,16 +43,16 @@ module _ {E : Edition} (sane : Sane E) {m : ℕ} {f : Forest} (s : Sound E m f) 
   unfolding moved carried
   moved-sound {from} {to} {c} t =
       sound-each sane s (moved from to c) (carried from to c)
-        (λ e. either (eqb (e .row) from) (λ u. rw u) (λ n. rw n))
-        (λ e p. either (eqb (e .row) from) (λ u. rw u (made-alike from p u (taken-made t))) (λ n. rw n (alike-self (e .cap))))
-        (λ e p. either (eqb (e .row) from) (λ u. rw u (made-placed from (t .present) (t .into) (taken-made t))) (λ n. rw n (placed s p)))
-        (λ e d p q. either (eqb (e .row) from)
-          (λ u. either (eqb (d .row) from)
-            (λ v z. eqb-true (e .row) from u ∙ sym (eqb-true (d .row) from v))
-            (λ v. rw (u, v) (λ z. absurd (vacant-none s to (t .vacant) q (sym z)))))
-          (λ u. either (eqb (d .row) from)
-            (λ v. rw (u, v) (λ z. absurd (vacant-none s to (t .vacant) p z)))
-            (λ v. rw (u, v) (λ z. z))))
+      (λ e. either (eqb (e .row) from) (λ u. rw u) (λ n. rw n))
+      (λ e p. either (eqb (e .row) from) (λ u. rw u (made-alike from p u (taken-made t))) (λ n. rw n (alike-self (e .cap))))
+      (λ e p. either (eqb (e .row) from) (λ u. rw u (made-placed from (t .present) (t .into) (taken-made t))) (λ n. rw n (placed s p)))
+      (λ e d p q. either (eqb (e .row) from)
+      (λ u. either (eqb (d .row) from)
+      (λ v z. eqb-true (e .row) from u ∙ sym (eqb-true (d .row) from v))
+      (λ v. rw (u, v) (λ z. absurd (vacant-none s to (t .vacant) q (sym z)))))
+      (λ u. either (eqb (d .row) from)
+      (λ v. rw (u, v) (λ z. absurd (vacant-none s to (t .vacant) p z)))
+      (λ v. rw (u, v) (λ z. z))))
 
   -- no entry but the source stands in the way
   free : {from mid to : ℕ} {c d : Cap} → Turned E f (home E f) from mid to c d → {e : Entry} → Has e (entries f) → eqb (e .row) from ≡ false → e .row ≡ to → ⊥
@@ -66,35 +66,35 @@ module _ {E : Edition} (sane : Sane E) {m : ℕ} {f : Forest} (s : Sound E m f) 
       left-of false h = refl
 
   turned-inject : {from mid to : ℕ} {c d : Cap} → Turned E f (home E f) from mid to c d → (x y : Entry) → Has x (entries f) → Has y (entries f)
-    → turned from mid to c d x .row ≡ turned from mid to c d y .row → x .row ≡ y .row
+      → turned from mid to c d x .row ≡ turned from mid to c d y .row → x .row ≡ y .row
   unfolding turned carried
   turned-inject {from} {mid} {to} t x y k l =
       either (eqb (x .row) mid)
       (λ p. either (eqb (y .row) mid)
-        (λ u z. eqb-true (x .row) mid p ∙ sym (eqb-true (y .row) mid u))
-        (λ u. rw (p, u) (either (eqb (y .row) from)
-          (λ a. rw a (λ z. absurd (eqb-false mid to (t .notTo) (sym z))))
-          (λ a. rw a (λ z. absurd (free t l a (sym z)))))))
+      (λ u z. eqb-true (x .row) mid p ∙ sym (eqb-true (y .row) mid u))
+      (λ u. rw (p, u) (either (eqb (y .row) from)
+      (λ a. rw a (λ z. absurd (eqb-false mid to (t .notTo) (sym z))))
+      (λ a. rw a (λ z. absurd (free t l a (sym z)))))))
       (λ p. rw p (either (eqb (x .row) from)
-        (λ a. rw a (either (eqb (y .row) mid)
-          (λ u. rw u (λ z. absurd (eqb-false mid to (t .notTo) z)))
-          (λ u. rw u (either (eqb (y .row) from)
-            (λ b. rw b (λ z. eqb-true (x .row) from a ∙ sym (eqb-true (y .row) from b)))
-            (λ b. rw b (λ z. absurd (eqb-false (y .row) mid u (sym z))))))))
-        (λ a. rw a (either (eqb (y .row) mid)
-          (λ u. rw u (λ z. absurd (free t k a z)))
-          (λ u. rw u (either (eqb (y .row) from)
-            (λ b. rw b (λ z. absurd (eqb-false (x .row) mid p z)))
-            (λ b. rw b (λ z. z))))))))
+      (λ a. rw a (either (eqb (y .row) mid)
+      (λ u. rw u (λ z. absurd (eqb-false mid to (t .notTo) z)))
+      (λ u. rw u (either (eqb (y .row) from)
+      (λ b. rw b (λ z. eqb-true (x .row) from a ∙ sym (eqb-true (y .row) from b)))
+      (λ b. rw b (λ z. absurd (eqb-false (y .row) mid u (sym z))))))))
+      (λ a. rw a (either (eqb (y .row) mid)
+      (λ u. rw u (λ z. absurd (free t k a z)))
+      (λ u. rw u (either (eqb (y .row) from)
+      (λ b. rw b (λ z. absurd (eqb-false (x .row) mid p z)))
+      (λ b. rw b (λ z. z))))))))
 
   pub rotated-sound : {from mid to : ℕ} {c d : Cap} → Turned E f (home E f) from mid to c d → Sound E m (edit (rotated from mid to c d) f)
   unfolding turned carried rotated moved
   rotated-sound {from} {mid} {to} {c} {d} t =
       sound-each sane s (rotated from mid to c d) (turned from mid to c d)
-        (λ e. either (eqb (e .row) mid) (λ u. rw u) (λ n. rw n (either (eqb (e .row) from) (λ u. rw u) (λ n. rw n))))
-        (λ e p. either (eqb (e .row) mid) (λ u. rw u (made-alike mid p u pivot)) (λ n. rw n (either (eqb (e .row) from) (λ u. rw u (made-alike from p u source)) (λ n. rw n (alike-self (e .cap))))))
-        (λ e p. either (eqb (e .row) mid) (λ u. rw u (made-placed mid (t .filled) (t .into) pivot)) (λ n. rw n (either (eqb (e .row) from) (λ u. rw u (made-placed from (t .present) (t .between) source)) (λ n. rw n (placed s p)))))
-        (turned-inject t)
+      (λ e. either (eqb (e .row) mid) (λ u. rw u) (λ n. rw n (either (eqb (e .row) from) (λ u. rw u) (λ n. rw n))))
+      (λ e p. either (eqb (e .row) mid) (λ u. rw u (made-alike mid p u pivot)) (λ n. rw n (either (eqb (e .row) from) (λ u. rw u (made-alike from p u source)) (λ n. rw n (alike-self (e .cap))))))
+      (λ e p. either (eqb (e .row) mid) (λ u. rw u (made-placed mid (t .filled) (t .into) pivot)) (λ n. rw n (either (eqb (e .row) from) (λ u. rw u (made-placed from (t .present) (t .between) source)) (λ n. rw n (placed s p)))))
+      (turned-inject t)
     where
       pivot : Made E m (capAt f mid) c
       pivot = passes-at (Made E m (capAt f mid)) {c = withDatum E false (t .datum) (capAt f mid)} (datum-made E m false (t .datum) (capAt f mid)) (t .changed)

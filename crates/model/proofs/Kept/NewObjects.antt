@@ -50,8 +50,8 @@ module _ {E : Edition} (sane : Sane E) (object size : ℕ) where
       rw back (either (eqb object 4)
       (λ t. rw t)
       (λ f. rw f (either (eqb object 0)
-        (λ t. rw t (let e = eqb-true object 0 t in ap (λ n. 2 ^ n) (rw e (let r : getD (E .sizes) 0 0 + (getD (E .sizes) 0 0 + size) ≡ getD (E .sizes) 0 0 + size = omega arith in r))))
-        (λ g. rw g))))
+      (λ t. rw t (let e = eqb-true object 0 t in ap (λ n. 2 ^ n) (rw e (let r : getD (E .sizes) 0 0 + (getD (E .sizes) 0 0 + size) ≡ getD (E .sizes) 0 0 + size = omega arith in r))))
+      (λ g. rw g))))
 
   pub new-limit : (a : ℕ) → limit E (newCap E object size a) ≡ a + 2 ^ exponent E object size
   unfolding limit newCap
@@ -75,8 +75,8 @@ module _ {E : Edition} (sane : Sane E) (object size : ℕ) where
         either (eqb object 0)
         (λ t. rw (new-untyped E object size a, t) (parts-within (E .leastUntyped) (c .size) (m - 1) (rw (plain t) (asked .least t)) (rw (plain t) (small t))))
         (λ f. rw (new-untyped E object size a, f) (either (eqb object 4)
-          (λ t. rw (new-cnode E object size a, t) (le-leb 1 (c .size) (rw (radix-is t) (asked .radix t))))
-          (λ g. rw (new-cnode E object size a, g) (eq-eqb (c .size) (exponent E (c .kind - 1) (c .size)) (whole f g)))))
+        (λ t. rw (new-cnode E object size a, t) (le-leb 1 (c .size) (rw (radix-is t) (asked .radix t))))
+        (λ g. rw (new-cnode E object size a, g) (eq-eqb (c .size) (exponent E (c .kind - 1) (c .size)) (whole f g)))))
       where
         plain : eqb object 0 ≡ true → c .size ≡ size
         plain t = unfold newCap exponent in (let e = eqb-true object 0 t in let s = sane .ofUntyped in rw e (let r : getD (E .sizes) 0 0 + size ≡ size = omega arith in r))
@@ -93,10 +93,10 @@ module _ {E : Edition} (sane : Sane E) (object size : ℕ) where
         either (isUntyped c)
         (λ t. rw t (and-intro refl (le-leb (c .third) (bytes E c) (omega arith))))
         (λ f. rw f (either (isCNode c)
-          (λ t. rw t (lt-ltb (c .third) (2 ^ min (E .guardBits) (c .fourth)) (let p = pow-pos (min (E .guardBits) (c .fourth)) in omega arith)))
-          (λ g. rw g (either (hasBadge c)
-            (λ t. rw t (lt-ltb (c .third) (2 ^ E .badgeBits) (let p = pow-pos (E .badgeBits) in omega arith)))
-            (λ h. rw h)))))
+        (λ t. rw t (lt-ltb (c .third) (2 ^ min (E .guardBits) (c .fourth)) (let p = pow-pos (min (E .guardBits) (c .fourth)) in omega arith)))
+        (λ g. rw g (either (hasBadge c)
+        (λ t. rw t (lt-ltb (c .third) (2 ^ E .badgeBits) (let p = pow-pos (E .badgeBits) in omega arith)))
+        (λ h. rw h)))))
 
     new-fourth : fourthAllowed E c ≡ true
     unfolding fourthAllowed
@@ -130,25 +130,25 @@ module _ (E : Edition) (object size : ℕ) where
   pub made-all : (P : Entry → Type 0) (n k address : ℕ) → ((i : ℕ) → i < n → P (record { row = k + i; cap = newCap E object size (address + i * X) })) → All P (made E object size k address n)
   unfolding made
   made-all P zero k address h = tt
-  made-all P (suc n) k address h =
-      ( simp (add-zero, zero-mul) at (h 0 (omega arith))
-      , made-all P n (k + 1) (address + X) (λ i l.
-          let a : k + suc i ≡ k + 1 + i = omega arith in
-          let s = suc-mul i X in
-          let b : address + suc i * X ≡ address + X + i * X = omega arith in
-          rw (a, b) at (h (suc i) (omega arith)))
-      )
+  made-all P (suc n) k address h = (
+    simp (add-zero, zero-mul) at (h 0 (omega arith)),
+    made-all P n (k + 1) (address + X) (λ i l.
+        let a : k + suc i ≡ k + 1 + i = omega arith in
+        let s = suc-mul i X in
+        let b : address + suc i * X ≡ address + X + i * X = omega arith in
+        rw (a, b) at (h (suc i) (omega arith))),
+  )
 
   pub made-distinct : (n k address : ℕ) → Distinct (rowsIn (made E object size k address n))
   unfolding made
   made-distinct zero k address = tt
-  made-distinct (suc n) k address =
-      ( all-from (λ j. j ≡ k → ⊥) (rowsIn (made E object size (k + 1) (address + X) n)) (λ j p e.
-          let (y, q, r) = has-map (λ y. y .row) (made E object size (k + 1) (address + X) n) p in
-          let l : k + 1 ≤ y .row = all-mem (λ y. k + 1 ≤ y .row) (made-all (λ y. k + 1 ≤ y .row) n (k + 1) (address + X) (λ i l. omega arith)) q in
-          absurd (omega arith))
-      , made-distinct n (k + 1) (address + X)
-      )
+  made-distinct (suc n) k address = (
+    all-from (λ j. j ≡ k → ⊥) (rowsIn (made E object size (k + 1) (address + X) n)) (λ j p e.
+        let (y, q, r) = has-map (λ y. y .row) (made E object size (k + 1) (address + X) n) p in
+        let l : k + 1 ≤ y .row = all-mem (λ y. k + 1 ≤ y .row) (made-all (λ y. k + 1 ≤ y .row) n (k + 1) (address + X) (λ i l. omega arith)) q in
+        absurd (omega arith)),
+    made-distinct n (k + 1) (address + X),
+  )
 
   address-of : (a : ℕ) → newCap E object size a .address .0 ≡ a
   unfolding newCap
@@ -165,20 +165,20 @@ module _ (E : Edition) (object size : ℕ) where
     made-pairs zero k a = refl
     made-pairs (suc n) k a =
         pair-cons E (newCap E object size a) (capsOf (made E object size (k + 1) (a + X) n))
-          (λ d p. caps-has (λ d. apart E (newCap E object size a) d ≡ true) (made E object size (k + 1) (a + X) n)
-            (made-all (λ e. apart E (newCap E object size a) (e .cap) ≡ true) n (k + 1) (a + X) (λ i l.
-              apart-disjoint E (newCap E object size a) (newCap E object size (a + X + i * X))
-                (ends-before E (newCap E object size a) (newCap E object size (a + X + i * X)) (let p = new-limit sane object size a in let q = address-of (a + X + i * X) in omega arith)))) p)
-          (made-pairs n (k + 1) (a + X))
+        (λ d p. caps-has (λ d. apart E (newCap E object size a) d ≡ true) (made E object size (k + 1) (a + X) n)
+        (made-all (λ e. apart E (newCap E object size a) (e .cap) ≡ true) n (k + 1) (a + X) (λ i l.
+        apart-disjoint E (newCap E object size a) (newCap E object size (a + X + i * X))
+        (ends-before E (newCap E object size a) (newCap E object size (a + X + i * X)) (let p = new-limit sane object size a in let q = address-of (a + X + i * X) in omega arith)))) p)
+        (made-pairs n (k + 1) (a + X))
 
     -- the window from byte t of the Untyped, beside children that end at or below that byte
     pub made-room : (u : Cap) (t window first : ℕ) (cs : List Cap) → isUntyped u ≡ true → Kids E u cs → ((c : Cap) → Has c cs → limit E c ≤ u .address .0 + t) →
-      Kids E (withThird u (t + window * X)) (capsOf (made E object size first (u .address .0 + t) window) ++ cs)
+        Kids E (withThird u (t + window * X)) (capsOf (made E object size first (u .address .0 + t) window) ++ cs)
     made-room u t window first cs un k old =
         record {
           each = λ d p. record { ofUntyped = λ v. inside d (List·Memᴰ·append-cases (capsOf new) p); ofTyped = λ v. absurd (true≢false (sym un ∙ same-untyped (third-same u (t + window * X)) ∙ v)) };
           pairs = pair-append E (capsOf new) cs (made-pairs window first (u .address .0 + t)) (k .pairs) (λ d c p q.
-            apart-disjoint E d c (starts-after E d c (let o = old c q in let z = among d p .0 in omega arith)));
+              apart-disjoint E d c (starts-after E d c (let o = old c q in let z = among d p .0 in omega arith)));
         }
       where
         new : List Entry
@@ -186,7 +186,7 @@ module _ (E : Edition) (object size : ℕ) where
 
         among : (d : Cap) → Has d (capsOf new) → (u .address .0 + t ≤ d .address .0) × (limit E d ≤ u .address .0 + (t + window * X))
         among d p = caps-has (λ d. (u .address .0 + t ≤ d .address .0) × (limit E d ≤ u .address .0 + (t + window * X))) new
-          (made-all (λ e. (u .address .0 + t ≤ e .cap .address .0) × (limit E (e .cap) ≤ u .address .0 + (t + window * X))) window first (u .address .0 + t) (λ i l.
+            (made-all (λ e. (u .address .0 + t ≤ e .cap .address .0) × (limit E (e .cap) ≤ u .address .0 + (t + window * X))) window first (u .address .0 + t) (λ i l.
             let q = address-of (u .address .0 + t + i * X) in
             let r : suc i * X ≤ window * X = mul-le-mul-right X l in
             let s = suc-mul i X in

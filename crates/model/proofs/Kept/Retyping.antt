@@ -81,7 +81,7 @@ module _ {E : Edition} (sane : Sane E) {m : ℕ} {f : Forest} (s : Sound E m f) 
       record {
         filled = new-filled E (q .object) (q .size) (u .address .0 + low + i * 2 ^ x);
         allowed = new-allowed sane (q .object) (q .size) m (u .address .0 + low + i * 2 ^ x) (w .asked) no-larger
-          (aligned-sum (exponent E (u .kind - 1) (u .size)) x (u .address .0) ((from + (2 ^ x - 1)) / 2 ^ x) i fits al) (omega arith);
+            (aligned-sum (exponent E (u .kind - 1) (u .size)) x (u .address .0) ((from + (2 ^ x - 1)) / 2 ^ x) i fits al) (omega arith);
         homed = w .into i l;
       }
 
@@ -95,16 +95,16 @@ module _ {E : Edition} (sane : Sane E) {m : ℕ} {f : Forest} (s : Sound E m f) 
   unfolding start
   room cs kids none =
       made-room E (q .object) (q .size) sane u low (q .window) first cs (w .untyped) kids (λ d n.
-        either (hasChildren f k)
-        (λ t. let i = inside-parts E u d (kids .each d n .ofUntyped (w .untyped)) .1 in let a = align-above from x in let b : from ≡ u .third = rw t in omega arith)
-        (λ g. absurd (List·Memᴰ·not-nil (subst (Has d) (none g) n))))
+      either (hasChildren f k)
+      (λ t. let i = inside-parts E u d (kids .each d n .ofUntyped (w .untyped)) .1 in let a = align-above from x in let b : from ≡ u .third = rw t in omega arith)
+      (λ g. absurd (List·Memᴰ·not-nil (subst (Has d) (none g) n))))
 
   pub retyped-sound : Sound E m (edit (allotted E k u low q first .deed) f)
   unfolding allotted
   retyped-sound =
       grafted-sound sane s k (λ c. withThird c high) (made E (q .object) (q .size) first (u .address .0 + low) (q .window)) (λ c. third-same c high)
-        (λ h. marked-allowed sane m u high (w .untyped) mark ends h)
-        (made-all E (q .object) (q .size) (Placed E m f) (q .window) first (u .address .0 + low) new-placed)
-        (made-distinct E (q .object) (q .size) (q .window) first (u .address .0 + low))
-        (made-all E (q .object) (q .size) (λ y. isEmpty (capAt f (y .row)) ≡ true) (q .window) first (u .address .0 + low) (w .vacant))
-        room
+      (λ h. marked-allowed sane m u high (w .untyped) mark ends h)
+      (made-all E (q .object) (q .size) (Placed E m f) (q .window) first (u .address .0 + low) new-placed)
+      (made-distinct E (q .object) (q .size) (q .window) first (u .address .0 + low))
+      (made-all E (q .object) (q .size) (λ y. isEmpty (capAt f (y .row)) ≡ true) (q .window) first (u .address .0 + low) (w .vacant))
+      room
