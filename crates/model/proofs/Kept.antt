@@ -20,3 +20,4 @@ pub mod Retyping
 pub mod Lookups
 pub mod Walk
 pub mod Serving
+pub mod Memory
