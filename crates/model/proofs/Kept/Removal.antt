@@ -32,7 +32,7 @@ module _ (E : Edition) (es : List Entry) where
   unfolding lost
   lost-names set n d h m s = member-has (d .row) set (rw s at (all-has (gone set n) h m))
 
-  names-lost : (set : List ℕ) (n : Entry) → ((d : Entry) → Has d es → sameObject (n .cap) (d .cap) ≡ true → Has (d .row) set) → lost es set (n .cap) ≡ true
+  pub names-lost : (set : List ℕ) (n : Entry) → ((d : Entry) → Has d es → sameObject (n .cap) (d .cap) ≡ true → Has (d .row) set) → lost es set (n .cap) ≡ true
   unfolding lost
   names-lost set n h = all-of (gone set n) es (λ d m. either (sameObject (n .cap) (d .cap)) (λ s. or-right (not (sameObject (n .cap) (d .cap))) (member (d .row) set) (has-member (h d m s))) (λ f. rw f))
 
