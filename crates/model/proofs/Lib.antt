@@ -5,3 +5,5 @@ pub mod State
 pub mod Order
 pub mod Words
 pub mod Removal
+pub mod Kept
+pub mod Separation
