@@ -3,6 +3,7 @@ pub mod Members
 pub mod Distinct
 pub mod State
 pub mod Order
+pub mod Tempting
 pub mod Words
 pub mod Removal
 pub mod Kept
