@@ -1,2 +1,3 @@
+mod CommonOrder
 mod BootRows
 mod BootAnswers
