@@ -3,3 +3,5 @@ pub mod Part
 pub mod Domain
 pub mod Safety
 pub mod Local
+pub mod Steps
+pub mod Merge
