@@ -5,3 +5,6 @@ pub mod Safety
 pub mod Local
 pub mod Steps
 pub mod Merge
+pub mod Estates
+pub mod Places
+pub mod Tenants

@@ -70,7 +70,7 @@ module _ {E : Edition} {Who : ℕ → Type 0} {M D : ℕ → ℕ → Bool} {Q A 
       either (eqb (z .caller) i)
       (λ e. let p = eqb-true (z .caller) i e in subst (λ k. Domain E (M k) (D k) (stepped plan f z)) p (edited-domain E (M (z .caller)) (D (z .caller)) _ (t .keeps (z .caller) w .safe f (d (z .caller) w) (z .message)) f (d (z .caller) w)))
       (λ n. let p = eqb-false (z .caller) i n in
-            edited-other-domain E (M (z .caller)) (D (z .caller)) (t .rowsAside (z .caller) i w v p) (t .placesAside (z .caller) i w v p) _ (t .keeps (z .caller) w .safe f (d (z .caller) w) (z .message)) f (d (z .caller) w) (d i v))
+      edited-other-domain E (M (z .caller)) (D (z .caller)) (t .rowsAside (z .caller) i w v p) (t .placesAside (z .caller) i w v p) _ (t .keeps (z .caller) w .safe f (d (z .caller) w) (z .message)) f (d (z .caller) w) (d i v))
 
   -- another tenant's step leaves a tenant's part of the forest
   stepped-part : (f : Forest) → Domains f → (z : Sent Q) → Who (z .caller) → (i : ℕ) → Who i → (z .caller ≡ i → ⊥) → partIn (D i) (stepped plan f z) ≡ partIn (D i) f
@@ -103,8 +103,8 @@ module _ {E : Edition} {Who : ℕ → Type 0} {M D : ℕ → ℕ → Bool} {Q A 
           let s′ = t .keeps (z .caller) (o .0) .safe g (c (z .caller) (o .0)) (z .message) in
           let e′ : partIn (D (z .caller)) f ≡ partIn (D (z .caller)) g = subst (λ k. partIn (D k) f ≡ partIn (D k) g) (sym m) e in
           let q : partIn (D i) (stepped plan f z) ≡ partIn (D i) (stepped plan g z) =
-                subst (λ k. partIn (D k) (stepped plan f z) ≡ partIn (D k) (stepped plan g z)) m
-                  (edited-part E (M (z .caller)) (D (z .caller)) _ s f ∙ ap₂ edited e′ (ap (λ (x : Did A). x .acts) a) ∙ sym (edited-part E (M (z .caller)) (D (z .caller)) _ s′ g)) in
+          subst (λ k. partIn (D k) (stepped plan f z) ≡ partIn (D k) (stepped plan g z)) m
+          (edited-part E (M (z .caller)) (D (z .caller)) _ s f ∙ ap₂ edited e′ (ap (λ (x : Did A). x .acts) a) ∙ sym (edited-part E (M (z .caller)) (D (z .caller)) _ s′ g)) in
           let r = ih (stepped plan f z) (stepped plan g z) (stepped-domains f d z (o .0)) (stepped-domains g c z (o .0)) q in
           unfold answersTo forestAfter in
           record { answers = rw (eq-eqb (z .caller) i m) (ap₂ (λ (x : Did A) xs. x .told ∷ xs) a (r .answers)); parts = r .parts }
@@ -148,7 +148,7 @@ module _ {E : Edition} {Who : ℕ → Type 0} {M D : ℕ → ℕ → Bool} {Q A 
 
   -- a request before all of another tenant's, or after
   slide : (i : ℕ) (zs ws : List (Sent Q)) → All (λ z. (z .caller ≡ i) × Who (z .caller)) zs → (f : Forest) → Domains f → (y : Sent Q) → Who (y .caller) → (y .caller ≡ i → ⊥)
-    → forestAfter plan f (y ∷ (zs ++ ws)) ≡ forestAfter plan f (zs ++ (y ∷ ws))
+      → forestAfter plan f (y ∷ (zs ++ ws)) ≡ forestAfter plan f (zs ++ (y ∷ ws))
   unfolding forestAfter
   slide i [] ws o f d y u n = refl
   slide i (z ∷ zs) ws o f d y u n =
@@ -169,8 +169,8 @@ module _ {E : Edition} {Who : ℕ → Type 0} {M D : ℕ → ℕ → Bool} {Q A 
           either (eqb (z .caller) i)
           (λ e. rw e ih)
           (λ n. rw n (ih ∙ slide i (keep (sentBy i) zs) (keep (λ z. not (sentBy i z)) zs)
-            (all-from (λ z. (z .caller ≡ i) × Who (z .caller)) (keep (sentBy i) zs) (λ y m. let r = keep-has (sentBy i) zs m in (eqb-true (y .caller) i (r .1), all-mem (λ z. Who (z .caller)) (o .1) (r .0))))
-            f d z (o .0) (eqb-false (z .caller) i n)))
+          (all-from (λ z. (z .caller ≡ i) × Who (z .caller)) (keep (sentBy i) zs) (λ y m. let r = keep-has (sentBy i) zs m in (eqb-true (y .caller) i (r .1), all-mem (λ z. Who (z .caller)) (o .1) (r .0))))
+          f d z (o .0) (eqb-false (z .caller) i n)))
 
   -- the forest after the requests of the first
   after-by : (xs ys : List (Sent Q)) (f : Forest) → forestAfter plan f (xs ++ ys) ≡ forestAfter plan (forestAfter plan f xs) ys

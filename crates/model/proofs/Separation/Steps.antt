@@ -96,12 +96,12 @@ unfolding andThen
 then-keeps {E} {M} {D} {Q = Q} {A = A} {B = B} p q k l =
     record {
       local = λ f d x.
-        let s = k .safe f d x in
-        ap₂ (λ (one : Did A) (two : Did B). record { told = two .told; acts = one .acts ++ two .acts }) (k .local f d x)
+          let s = k .safe f d x in
+          ap₂ (λ (one : Did A) (two : Did B). record { told = two .told; acts = one .acts ++ two .acts }) (k .local f d x)
           (l (p f x .told) .local (edited f (p f x .acts)) (edited-domain E M D (p f x .acts) s f d) x
-            ∙ ap (λ g. q (p f x .told) g x) (edited-part E M D (p f x .acts) s f)
-            ∙ ap (λ (one : Did A). q (one .told) (edited (partIn D f) (one .acts)) x) (k .local f d x));
+          ∙ ap (λ g. q (p f x .told) g x) (edited-part E M D (p f x .acts) s f)
+          ∙ ap (λ (one : Did A). q (one .told) (edited (partIn D f) (one .acts)) x) (k .local f d x));
       safe = λ f d x.
-        let s = k .safe f d x in
-        all-append (Safe E M D) (p f x .acts) (q (p f x .told) (edited f (p f x .acts)) x .acts) s (l (p f x .told) .safe (edited f (p f x .acts)) (edited-domain E M D (p f x .acts) s f d) x);
+          let s = k .safe f d x in
+          all-append (Safe E M D) (p f x .acts) (q (p f x .told) (edited f (p f x .acts)) x .acts) s (l (p f x .told) .safe (edited f (p f x .acts)) (edited-domain E M D (p f x .acts) s f d) x);
     }
