@@ -21,3 +21,4 @@ pub mod Lookups
 pub mod Walk
 pub mod Serving
 pub mod Memory
+pub mod Reuse

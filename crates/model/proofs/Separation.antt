@@ -8,3 +8,4 @@ pub mod Merge
 pub mod Estates
 pub mod Places
 pub mod Tenants
+pub mod Two

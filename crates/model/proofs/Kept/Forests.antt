@@ -133,7 +133,7 @@ tree-none : (f : Forest) → f ≡ end → isTree f ≡ false
 unfolding isTree
 tree-none f e = rw e
 
-not-at-end : {f : Forest} {x : Entry} {c : Forest} → f ≡ end → At f x c → ⊥
+pub not-at-end : {f : Forest} {x : Entry} {c : Forest} → f ≡ end → At f x c → ⊥
 unfolding entries
 not-at-end {f} h i = List·Memᴰ·not-nil (rw h at (at-has i))
 

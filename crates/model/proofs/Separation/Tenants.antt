@@ -2,11 +2,11 @@
 -- requests ends in the forest of any one-after-another order.
 use Prim.Native.Nat.{_<_, ℕ}
 use mathlib.Core.Bool.{Bool, not, true, true≢false}
-use mathlib.Core.List.{List}
+use mathlib.Core.List.{List, _++_}
 use mathlib.Core.Path.{_∙_, _≡_, refl, subst, sym}
 use borrow.Author.Tests.{not-true}
 use Rattle.model.specs.declared.Answer.{Answer}
-use Rattle.model.specs.Lists.{member, shareNone}
+use Rattle.model.specs.Lists.{keep, member, shareNone}
 use Rattle.model.specs.Edition.{Edition}
 use Rattle.model.specs.Cap.{isCNode}
 use Rattle.model.specs.Tree.{Entry, Forest, capAt, entries}
@@ -22,9 +22,13 @@ use Rattle.model.proofs.Kept.Rules.{entry-at, fine, known}
 use Rattle.model.proofs.Separation.Commute.{In, InE}
 use Rattle.model.proofs.Separation.Domain.{Domain}
 use Rattle.model.proofs.Separation.Estates.{brings-below, brings-name, brings-slot, estate-brings, estate-root}
-use Rattle.model.proofs.Separation.Merge.{Sent, Tenancy, answers-alone, answersTo, by, forest-in-turn, forestAfter, inTurn}
+use Rattle.model.proofs.Separation.Merge.{Sent, Tenancy, answers-alone, answersTo, by, first-by, forest-in-turn, forestAfter, inTurn, others, struck-answers}
 use Rattle.model.proofs.Separation.Places.{Whole, domain-of, domainRows, places-aside, placesIn, row-in, rows-aside}
 use Rattle.model.proofs.Separation.Steps.{Did, Keeps, didOf, served-keeps}
+
+-- a request of a caller
+abbrev pub asked : Edition → ℕ → Forest → List ℕ → Did Answer
+asked E caller f message = didOf (served E f caller message)
 
 module _ {E : Edition} {m : ℕ} {f : Forest} (s : Sound E m f) where
   pub inEstate : ℕ → ℕ → Bool
@@ -81,16 +85,19 @@ module _ {E : Edition} {m : ℕ} {f : Forest} (s : Sound E m f) where
     pub domains : (a : ℕ) → Who a → Domain E (M a) (D a) f
     domains a w = domain-of sane s (estate-whole a)
 
-    -- requests
-    abbrev pub asked : ℕ → Forest → List ℕ → Did Answer
-    asked caller g message = didOf (served E g caller message)
-
-    requests : Tenancy E Who M D asked
+    requests : Tenancy E Who M D (asked E)
     requests = tenancy (λ a i. served-keeps sane a i)
 
     module _ (zs : List (Sent (List ℕ))) (ours : All (λ z. Who (z .caller)) zs) where
-      pub tenants-answers : (a : ℕ) → Who a → answersTo asked a f zs ≡ answersTo asked a f (by a zs)
+      pub tenants-answers : (a : ℕ) → Who a → answersTo (asked E) a f zs ≡ answersTo (asked E) a f (by a zs)
       tenants-answers a w = answers-alone requests f domains zs ours a w
 
-      pub tenants-forest : (order : List ℕ) → forestAfter asked f zs ≡ forestAfter asked f (inTurn order zs)
+      pub tenants-first : (a : ℕ) → forestAfter (asked E) f zs ≡ forestAfter (asked E) f (by a zs ++ others a zs)
+      tenants-first a = first-by requests a zs ours f domains
+
+      pub tenants-forest : (order : List ℕ) → forestAfter (asked E) f zs ≡ forestAfter (asked E) f (inTurn order zs)
       tenants-forest order = forest-in-turn requests order zs ours f domains
+
+      -- striking out others' requests
+      pub tenants-struck : (a : ℕ) → Who a → (p : Sent (List ℕ) → Bool) → ((z : Sent (List ℕ)) → z .caller ≡ a → p z ≡ true) → answersTo (asked E) a f zs ≡ answersTo (asked E) a f (keep p zs)
+      tenants-struck a w p h = struck-answers requests f domains zs ours a w p h
