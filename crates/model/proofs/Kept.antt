@@ -19,6 +19,7 @@ pub mod NewObjects
 pub mod Retyping
 pub mod Lookups
 pub mod Walk
+pub mod Requests
 pub mod Serving
 pub mod Memory
 pub mod Reuse

@@ -3,7 +3,6 @@
 use Prim.Native.Nat.{_+_, _-_, _/_, _<_, _^_, _≤_, ℕ}
 use mathlib.Core.Bool.{Bool, false, true, true≢false}
 use mathlib.Core.List.{List, List·Memᴰ·head}
-use mathlib.Core.Logic.{_⊎_, inl, inr}
 use mathlib.Core.Path.{_∙_, _≡_, ap, refl, subst, sym}
 use native.Mathlib.Nat.{le-div-iff-mul-le, one-mul}
 use native.Mathlib.Omega.{arith}
@@ -20,79 +19,20 @@ use Rattle.model.specs.declared.Retyping.{Retyping}
 use Rattle.model.specs.Lists.{member}
 use Rattle.model.specs.Edition.{Edition}
 use Rattle.model.specs.Cap.{bytes, exponent, firstRow, isCNode, isEmpty, isUntyped, slots}
-use Rattle.model.specs.Tree.{Entry, Forest, below, capAt, edit, end, entries, hasChildren, isTree, join, leaves, put, tree, without}
+use Rattle.model.specs.Tree.{Entry, Forest, below, capAt, edit, end, entries, hasChildren, isTree, tree, without}
 use Rattle.model.specs.Check.{Check, _>>=_, _>>_, passed, refuse}
 use Rattle.model.specs.Rules.{mInRange}
 use Rattle.model.specs.Removal.{removed}
 use Rattle.model.specs.Operations.{Done, alignUp, allot, allotted, anyTaken, descendants, find, node, remove, retype, revoke, sizeBarred, start}
-use Rattle.model.proofs.Booleans.{either, within-parts}
+use Rattle.model.proofs.Booleans.{within-parts}
 use Rattle.model.proofs.Members.{Has, has-member, keep-has, map-has}
 use Rattle.model.proofs.State.{Sound}
 use Rattle.model.proofs.Kept.Allowed.{untyped-filled, untyped-size}
-use Rattle.model.proofs.Kept.Edits.{alive, entries-without}
+use Rattle.model.proofs.Kept.Edits.{alive, below-without, entries-without}
 use Rattle.model.proofs.Kept.Figures.{Sane, bytes-untyped}
-use Rattle.model.proofs.Kept.Forests.{At, after, below-has, below-row, here, not-at-end, row-below, under}
+use Rattle.model.proofs.Kept.Forests.{below-has, row-below}
 use Rattle.model.proofs.Kept.Removal.{removed-start}
 use Rattle.model.proofs.Kept.Rules.{allowed-at, entry-at, known, removed-sound}
-
--- ---- where an entry that is left stood
-
-tree-cases : {e x : Entry} {b a c : Forest} → At (tree e b a) x c → ((x ≡ e) × (c ≡ b)) ⊎ (At b x c ⊎ At a x c)
-tree-cases here = inl (refl, refl)
-tree-cases (under i) = inr (inl i)
-tree-cases (after i) = inr (inr i)
-
-join-cases : (p q : Forest) {x : Entry} {c : Forest} → At (join p q) x c → At p x c ⊎ At q x c
-unfolding join
-join-cases end q i = inr i
-join-cases (tree e b a) q {x} {c} i = go (λ j. join-cases a q j) (tree-cases i)
-  where
-    later : At a x c ⊎ At q x c → At (tree e b a) x c ⊎ At q x c
-    later (inl k) = inl (after k)
-    later (inr k) = inr k
-
-    go : (At (join a q) x c → At a x c ⊎ At q x c) → ((x ≡ e) × (c ≡ b)) ⊎ (At b x c ⊎ At (join a q) x c) → At (tree e b a) x c ⊎ At q x c
-    go ih (inl h) = inl (rw (h .0, h .1) here)
-    go ih (inr (inl j)) = inl (under j)
-    go ih (inr (inr j)) = later (ih j)
-
--- an entry that a removal leaves stood there before, with what is left below it
-record Stood (dead : List ℕ) (f : Forest) (x : Entry) (c : Forest) : Type 0 where
-  trees : Forest
-  at : At f x trees
-  same : c ≡ edit (without dead) trees
-
-stood : (dead : List ℕ) (f : Forest) {x : Entry} {c : Forest} → At (edit (without dead) f) x c → Stood dead f x c
-unfolding edit
-stood dead end i = absurd (not-at-end refl i)
-stood dead (tree e b a) {x} {c} i = go (λ j. stood dead b j) (λ j. stood dead a j)
-  where
-    inner : Stood dead b x c → Stood dead (tree e b a) x c
-    inner r = record { trees = r .trees; at = under (r .at); same = r .same }
-
-    outer : Stood dead a x c → Stood dead (tree e b a) x c
-    outer r = record { trees = r .trees; at = after (r .at); same = r .same }
-
-    pick : (At (edit (without dead) b) x c → Stood dead b x c) → (At (edit (without dead) a) x c → Stood dead a x c) → At (edit (without dead) b) x c ⊎ At (edit (without dead) a) x c → Stood dead (tree e b a) x c
-    pick p q (inl j) = inner (p j)
-    pick p q (inr j) = outer (q j)
-
-    root : (At (edit (without dead) b) x c → Stood dead b x c) → (At (edit (without dead) a) x c → Stood dead a x c)
-        → ((x ≡ e) × (c ≡ edit (without dead) b)) ⊎ (At (edit (without dead) b) x c ⊎ At (edit (without dead) a) x c) → Stood dead (tree e b a) x c
-    root p q (inl h) = record { trees = b; at = rw (h .0) here; same = h .1 }
-    root p q (inr j) = pick p q j
-
-    go : (At (edit (without dead) b) x c → Stood dead b x c) → (At (edit (without dead) a) x c → Stood dead a x c) → Stood dead (tree e b a) x c
-    go p q =
-        either (member (e .row) dead)
-        (λ t. pick p q (join-cases (edit (without dead) b) (edit (without dead) a) (subst (λ g. At g x c) (gone t) i)))
-        (λ n. root p q (tree-cases (subst (λ g. At g x c) (kept n) i)))
-      where
-        gone : member (e .row) dead ≡ true → edit (without dead) (tree e b a) ≡ join (edit (without dead) b) (edit (without dead) a)
-        gone t = unfold edit put without in rw t
-
-        kept : member (e .row) dead ≡ false → edit (without dead) (tree e b a) ≡ tree e (edit (without dead) b) (edit (without dead) a)
-        kept n = unfold edit put without leaves in rw n
 
 -- ---- after a Revoke
 
@@ -106,16 +46,17 @@ module _ {E : Edition} {m : ℕ} {f : Forest} (s : Sound E m f) (k : ℕ) where
   left-has : {e : Entry} → Has e (entries g) → Has e (entries f) × (member (e .row) dead ≡ false)
   left-has {e} p = let r = keep-has (alive dead) (entries f) (subst (Has e) (entries-without dead f) p) in (r .0, not-true (member (e .row) dead) (r .1))
 
+  pub still-there : isEmpty (capAt g k) ≡ false → member k dead ≡ false
+  still-there h = let (e, p, r, q) = entry-at (removed-sound s (descendants f k)) k h in subst (λ j. member j dead ≡ false) r (left-has p .1)
+
   -- nothing stands below the row any more
-  pub revoked-childless : hasChildren g k ≡ false
+  pub revoked-childless : isEmpty (capAt g k) ≡ false → hasChildren g k ≡ false
   unfolding hasChildren descendants
-  revoked-childless = none (below g k) (λ y p.
-      let (x, r, u) = row-below g k p in
-      let z = stood dead f (u .at) in
-      let q : Has y (entries (z .trees)) = keep-has (alive dead) (entries (z .trees)) (subst (Has y) (ap entries (z .same) ∙ entries-without dead (z .trees)) (u .has)) .0 in
-      let l : Has y (entries (below f k)) = subst (λ j. Has y (entries (below f j))) r (below-row (z .at) q) in
-      let h = removed-start E (entries f) (descendants f k) y (below-has (z .at) q) (unfold descendants in map-has (λ e. e .row) l) in
-      true≢false (sym (has-member h) ∙ left-has (below-has (u .at) (u .has)) .1))
+  revoked-childless h = none (below g k) (λ y p.
+      let q = keep-has (alive dead) (entries (below f k)) (subst (Has y) (ap entries (below-without dead f k (still-there h)) ∙ entries-without dead (below f k)) p) in
+      let (x, r, u) = row-below f k (q .0) in
+      let i = removed-start E (entries f) (descendants f k) y (below-has (u .at) (u .has)) (unfold descendants in map-has (λ e. e .row) (q .0)) in
+      true≢false (sym (has-member i) ∙ not-true (member (y .row) dead) (q .1)))
     where
       none : (h : Forest) → ((y : Entry) → Has y (entries h) → ⊥) → isTree h ≡ false
       none end p = unfold isTree in refl
@@ -217,4 +158,4 @@ module _ {E : Edition} (sane : Sane E) {m : ℕ} (inRange : mInRange E m ≡ tru
       let z = sane .span in
       let fits : capAt f k .size ≤ E .greatestSize = omega arith in
       subst (λ c. (d : Done) × (retype E (edit (r .deed) f) k (oneUntyped (c .size) into offset) ≡ passed d) × (d .count ≡ 1)) same-cap
-      (passes-with-one sane h k (rw same-cap untyped) (subst (λ g. hasChildren g k ≡ false) did-is (revoked-childless s k)) (rw same-cap fits) into n named cnode offset among vacant)
+      (passes-with-one sane h k (rw same-cap untyped) (subst (λ g. isEmpty (capAt g k) ≡ false → hasChildren g k ≡ false) did-is (revoked-childless s k) there) (rw same-cap fits) into n named cnode offset among vacant)

@@ -20,9 +20,10 @@ use Rattle.model.proofs.Kept.Deals.{Deal, copies, moves, removes, retyp
 use Rattle.model.proofs.Kept.Figures.{Sane}
 use Rattle.model.proofs.Kept.Forests.{below-has, row-below}
 use Rattle.model.proofs.Kept.Moving.{moved-sound, rotated-sound}
+use Rattle.model.proofs.Kept.Requests.{served-deals}
 use Rattle.model.proofs.Kept.Retyping.{retyped-sound}
 use Rattle.model.proofs.Kept.Rules.{SlotsIn, home, home-of, removed-sound, slots-home}
-use Rattle.model.proofs.Kept.Walk.{View, copy-deals, delete-deals, move-deals, retype-deals, revoke-deals, rotate-deals, served-deals}
+use Rattle.model.proofs.Kept.Walk.{View, copy-deals, delete-deals, move-deals, retype-deals, revoke-deals, rotate-deals}
 
 module _ {E : Edition} {m : ℕ} {f : Forest} (s : Sound E m f) where
   -- the forest seen from the rows in homes

@@ -138,7 +138,6 @@ module _ {E : Edition} (sane : Sane E) {m : ℕ} {f : Forest} (s : Sound E m f) 
   made e = h e ∷ new e
 
   spread-is : entries (edit act f) ≡ spread made (entries f)
-  unfolding left
   spread-is = entries-edit act f ∙ ap (λ (g : Entry → List Entry). spread g (entries f)) (λ i e. left (is e i))
 
   sames : Every (λ e. Same (e .cap) (h e .cap)) f

@@ -22,8 +22,9 @@ use Rattle.model.proofs.Kept.Figures.{Sane}
 use Rattle.model.proofs.Kept.Forests.{every-has}
 use Rattle.model.proofs.Kept.Objects.{same-parts, same-refl}
 use Rattle.model.proofs.Kept.Removal.{follows-cases, follows-home, follows-own, grow-is, lost-names, names-lost}
+use Rattle.model.proofs.Kept.Requests.{served-deals}
 use Rattle.model.proofs.Kept.Rounds.{enough}
-use Rattle.model.proofs.Kept.Walk.{View, served-deals}
+use Rattle.model.proofs.Kept.Walk.{View}
 use Rattle.model.proofs.Separation.Commute.{In, InE, OutE}
 use Rattle.model.proofs.Separation.Domain.{Domain, Fit, Safe}
 use Rattle.model.proofs.Separation.Part.{below-in, below-part, capAt-part, entries-part, partIn, rowIn}

@@ -1,19 +1,19 @@
 -- Two tenants whose estates share no row: any merge of their requests gives each its answers, and ends in the forest that the first's
 -- requests and then the second's end in.
 use Prim.Native.Nat.{_<_, ℕ}
-use mathlib.Core.Bool.{Bool, not, true, true≢false}
+use mathlib.Core.Bool.{not, true, true≢false}
 use mathlib.Core.List.{List, List·Memᴰ·eq-of-singleton, List·Memᴰ·head, List·Memᴰ·tail, [], _++_, _∷_}
 use mathlib.Core.Path.{_∙_, _≡_, ap, refl, subst, sym}
 use lib.Dec.{eqb}
 use borrow.Author.Tests.{eq-eqb, ne-eqb, not-true}
-use Rattle.model.specs.Lists.{keep, member, shareNone}
+use Rattle.model.specs.Lists.{member, shareNone}
 use Rattle.model.specs.Edition.{Edition}
 use Rattle.model.specs.Cap.{isCNode}
 use Rattle.model.specs.Tree.{Forest, capAt}
 use Rattle.model.specs.Tables.{rows}
 use Rattle.model.specs.Estate.{estate}
 use Rattle.model.proofs.Booleans.{either}
-use Rattle.model.proofs.Members.{All, Has, all-has, all-mem, all-of, has-member, member-has}
+use Rattle.model.proofs.Members.{All, Has, all-has, all-mem, all-of, has-member, keep-ext, member-has}
 use Rattle.model.proofs.State.{Sound}
 use Rattle.model.proofs.Kept.Allowed.{cnode-filled}
 use Rattle.model.proofs.Kept.Figures.{Sane}
@@ -21,11 +21,6 @@ use Rattle.model.proofs.Kept.Rules.{entry-at, fine}
 use Rattle.model.proofs.Separation.Estates.{estate-root}
 use Rattle.model.proofs.Separation.Merge.{Sent, answersTo, by, forestAfter, others}
 use Rattle.model.proofs.Separation.Tenants.{asked, tenants-answers, tenants-first}
-
-keep-ext : {A : Type 0} (p q : A → Bool) (xs : List A) → ((x : A) → Has x xs → p x ≡ q x) → keep p xs ≡ keep q xs
-unfolding keep
-keep-ext p q [] h = refl
-keep-ext p q (x ∷ xs) h = rw (h x (List·Memᴰ·head refl), keep-ext p q xs (λ y m. h y (List·Memᴰ·tail m)))
 
 -- what is sent by a caller's fellow alone
 others-by : {Q : Type 0} (a b : ℕ) (zs : List (Sent Q)) → (a ≡ b → ⊥) → All (λ z. Has (z .caller) (a ∷ b ∷ [])) zs → others a zs ≡ by b zs
