@@ -1,7 +1,7 @@
 -- What the laws ask of an edition's figures, and the sizes of objects that follow from them.
-use Prim.Native.Nat.{_*_, _+_, _^_, _≤_, suc, zero, ℕ}
+use Prim.Native.Nat.{suc, zero, ℕ, _*_, _+_, _^_, _≤_}
+use mathlib.Core.Path.{ap, refl, _∙_, _≡_}
 use mathlib.Core.Bool.{true}
-use mathlib.Core.Path.{_∙_, _≡_, ap, refl}
 use native.Mathlib.Omega.{arith}
 use lib.Dec.{lit≤}
 use lib.ListN.{getD}
@@ -11,6 +11,7 @@ use Rattle.model.specs.declared.Cap.{Cap}
 use Rattle.model.specs.Edition.{Edition, edition32}
 use Rattle.model.specs.Cap.{bytes, exponent, isCNode, isUntyped, slots}
 
+-- figures that make sense together
 pub record Sane (E : Edition) : Type 0 where
   pub ofCNode : getD (E .sizes) 4 0 ≡ E .slot  -- a CNode is as large as its slots
   pub ofUntyped : getD (E .sizes) 0 0 ≡ 0

@@ -1,9 +1,9 @@
 -- The walk of a request: the row of its service, the rows of its roots, and the operation that it asks for. A further operation joins by a
 -- clause of `perform-deals`.
 use Prim.Native.Nat.{ℕ}
+use mathlib.Core.Path.{ap, refl, _≡_}
 use mathlib.Core.Bool.{Bool, false, false≢true, not, true}
 use mathlib.Core.List.{List}
-use mathlib.Core.Path.{_≡_, ap, refl}
 use lib.ListN.{getD}
 use borrow.Author.Tests.{not-false}
 use Rattle.model.specs.declared.Answer.the-variants.{IllegalOperation, InvalidCapability, TruncatedMessage}

@@ -1,9 +1,9 @@
 -- Freed memory is used again: after a Revoke of an Untyped that is still there, Retype of it as one Untyped of its own size passes, into
 -- any empty slot that the request names.
-use Prim.Native.Nat.{_+_, _-_, _/_, _<_, _^_, _≤_, ℕ}
+use Prim.Native.Nat.{ℕ, _+_, _-_, _/_, _<_, _^_, _≤_}
+use mathlib.Core.Path.{ap, refl, subst, sym, _∙_, _≡_}
 use mathlib.Core.Bool.{Bool, false, true, true≢false}
 use mathlib.Core.List.{List, List·Memᴰ·head}
-use mathlib.Core.Path.{_∙_, _≡_, ap, refl, subst, sym}
 use native.Mathlib.Nat.{le-div-iff-mul-le, one-mul}
 use native.Mathlib.Omega.{arith}
 use lib.Dec.{ltb}
@@ -20,7 +20,7 @@ use Rattle.model.specs.Lists.{member}
 use Rattle.model.specs.Edition.{Edition}
 use Rattle.model.specs.Cap.{bytes, exponent, firstRow, isCNode, isEmpty, isUntyped, slots}
 use Rattle.model.specs.Tree.{Entry, Forest, below, capAt, edit, end, entries, hasChildren, isTree, tree, without}
-use Rattle.model.specs.Check.{Check, _>>=_, _>>_, passed, refuse}
+use Rattle.model.specs.Check.{Check, passed, refuse, _>>=_, _>>_}
 use Rattle.model.specs.Rules.{mInRange}
 use Rattle.model.specs.Removal.{removed}
 use Rattle.model.specs.Operations.{Done, alignUp, allot, allotted, anyTaken, descendants, find, node, remove, retype, revoke, sizeBarred, start}
@@ -37,6 +37,7 @@ use Rattle.model.proofs.Kept.Rules.{allowed-at, entry-at, known, remove
 -- ---- after a Revoke
 
 module _ {E : Edition} {m : ℕ} {f : Forest} (s : Sound E m f) (k : ℕ) where
+  -- what a Revoke of row k removes, and the forest after it
   abbrev dead : List ℕ
   dead = removed E (entries f) (descendants f k)
 

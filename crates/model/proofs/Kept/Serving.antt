@@ -1,8 +1,8 @@
 -- A request keeps the rules on a forest: whatever it does is a deal, and each deal keeps them.
 use Prim.Native.Nat.{ℕ}
+use mathlib.Core.Path.{refl, subst, _≡_}
 use mathlib.Core.Bool.{true}
 use mathlib.Core.List.{List}
-use mathlib.Core.Path.{_≡_, refl, subst}
 use Rattle.model.specs.declared.Change.{Change}
 use Rattle.model.specs.declared.Place.{Place}
 use Rattle.model.specs.declared.Retyping.{Retyping}

@@ -1,8 +1,8 @@
 -- An estate holds its root row, is closed under what its rows bring, and is inside every set that has both.
-use Prim.Native.Nat.{_<_, suc, zero, ℕ}
-use mathlib.Core.Bool.{Bool, _&&_, _||_, false, not, true}
-use mathlib.Core.List.{List, List·Memᴰ·eq-of-singleton, List·Memᴰ·head, List·Memᴰ·not-nil, List·Memᴰ·tail, [], _∷_, map, map-id}
-use mathlib.Core.Path.{_≡_, ap, refl, subst, sym}
+use Prim.Native.Nat.{suc, zero, ℕ, _<_}
+use mathlib.Core.Path.{ap, refl, subst, sym, _≡_}
+use mathlib.Core.Bool.{Bool, false, not, true, _&&_, _||_}
+use mathlib.Core.List.{List, List·Memᴰ·eq-of-singleton, List·Memᴰ·head, List·Memᴰ·not-nil, List·Memᴰ·tail, map, map-id, [], _∷_}
 use native.Mathlib.Omega.{arith}
 use lib.Dec.{eqb}
 use lib.ListN.{length}
@@ -16,21 +16,21 @@ use Rattle.model.proofs.Booleans.{either, or-cases, or-left, or-right}
 use Rattle.model.proofs.Members.{Has, any-has, any-some, has-member, member-has}
 use Rattle.model.proofs.Kept.Rounds.{rounds-closed, rounds-hold, rounds-inside}
 
-below-has′ : (n k : ℕ) → k < n → Has k (rowsBelow n)
+row-listed : (n k : ℕ) → k < n → Has k (rowsBelow n)
 unfolding rowsBelow
-below-has′ zero k h = absurd (omega arith)
-below-has′ (suc n) k h = either (eqb k n) (λ t. List·Memᴰ·head (eqb-true k n t)) (λ f. let z = eqb-false k n f in List·Memᴰ·tail (below-has′ n k (omega arith)))
+row-listed zero k h = absurd (omega arith)
+row-listed (suc n) k h = either (eqb k n) (λ t. List·Memᴰ·head (eqb-true k n t)) (λ f. let z = eqb-false k n f in List·Memᴰ·tail (row-listed n k (omega arith)))
 
-has-below : (n k : ℕ) → Has k (rowsBelow n) → k < n
+listed-row : (n k : ℕ) → Has k (rowsBelow n) → k < n
 unfolding rowsBelow
-has-below zero k m = absurd (List·Memᴰ·not-nil m)
-has-below (suc n) k (List·Memᴰ·head e) = omega arith
-has-below (suc n) k (List·Memᴰ·tail m) = let h = has-below n k m in omega arith
+listed-row zero k m = absurd (List·Memᴰ·not-nil m)
+listed-row (suc n) k (List·Memᴰ·head e) = omega arith
+listed-row (suc n) k (List·Memᴰ·tail m) = let h = listed-row n k m in omega arith
 
-below-length : (n : ℕ) → length (rowsBelow n) ≡ n
+rows-listed : (n : ℕ) → length (rowsBelow n) ≡ n
 unfolding rowsBelow
-below-length zero = refl
-below-length (suc n) = ap suc (below-length n)
+rows-listed zero = refl
+rows-listed (suc n) = ap suc (rows-listed n)
 
 module _ (E : Edition) (f : Forest) (n : ℕ) where
   -- a set with the rows below n that its rows bring
@@ -63,19 +63,19 @@ module _ (E : Edition) (f : Forest) (n : ℕ) where
 
     estate-is : rounds ≡ estate E f n root
     unfolding estate
-    estate-is = ap (λ x. repeat (suc x) (widen E f n) (root ∷ [])) (below-length n)
+    estate-is = ap (λ x. repeat (suc x) (widen E f n) (root ∷ [])) (rows-listed n)
 
     pub estate-root : root < n → Has root (estate E f n root)
-    estate-root l = subst (Has root) estate-is (rounds-hold (λ k. k) comes (rowsBelow n) (widen E f n) widen-is comes-own (suc (length (rowsBelow n))) (root ∷ []) (below-has′ n root l) (List·Memᴰ·head refl))
+    estate-root l = subst (Has root) estate-is (rounds-hold (λ k. k) comes (rowsBelow n) (widen E f n) widen-is comes-own (suc (length (rowsBelow n))) (root ∷ []) (row-listed n root l) (List·Memᴰ·head refl))
 
     pub estate-brings : Brought (λ k. Has k (estate E f n root))
     estate-brings j k l m b =
-        subst (Has k) estate-is (rounds-closed (λ k. k) comes (rowsBelow n) (widen E f n) widen-is comes-own (root ∷ []) (below-has′ n k l) (comes-by rounds j k (subst (Has j) (sym estate-is) m) b))
+        subst (Has k) estate-is (rounds-closed (λ k. k) comes (rowsBelow n) (widen E f n) widen-is comes-own (root ∷ []) (row-listed n k l) (comes-by rounds j k (subst (Has j) (sym estate-is) m) b))
 
     pub estate-least : (C : ℕ → Type 0) → Brought C → C root → (k : ℕ) → Has k (estate E f n root) → C k
     estate-least C h r k m =
         rounds-inside (λ k. k) comes (rowsBelow n) (widen E f n) widen-is C
-        (λ set s x p t. come-cases set x t (s x) (λ j q b. h j x (has-below n x p) (s j q) b))
+        (λ set s x p t. come-cases set x t (s x) (λ j q b. h j x (listed-row n x p) (s j q) b))
         (suc (length (rowsBelow n))) (root ∷ []) (λ j q. subst C (sym (List·Memᴰ·eq-of-singleton q)) r) k (subst (Has k) (sym estate-is) m)
 
     -- its rows are below n, as its root is
@@ -85,9 +85,11 @@ module _ (E : Edition) (f : Forest) (n : ℕ) where
 -- ---- what a row brings, one by one
 
 module _ (E : Edition) (f : Forest) (j k : ℕ) where
+  -- row k holds a descendant of row j
   abbrev lower : Bool
   lower = any (λ d. eqb (d .row) k) (entries (below f j))
 
+  -- rows j and k name the same typed object
   abbrev twins : Bool
   twins = not (isEmpty (capAt f j)) && not (isUntyped (capAt f j)) && sameObject (capAt f j) (capAt f k)
 

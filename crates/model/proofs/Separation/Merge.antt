@@ -1,9 +1,9 @@
 -- Requests of tenants whose steps keep domains that are apart: each tenant's answers are those that it gets alone, and any merge ends in
 -- the forest of any one-after-another order.
 use Prim.Native.Nat.{ℕ}
+use mathlib.Core.Path.{ap, ap₂, refl, subst, sym, _∙_, _≡_}
 use mathlib.Core.Bool.{Bool, cond, false, not, true}
 use mathlib.Core.List.{List, [], _++_, _∷_}
-use mathlib.Core.Path.{_∙_, _≡_, ap, ap₂, refl, subst, sym}
 use lib.Dec.{eqb}
 use borrow.Author.Tests.{eq-eqb, eqb-false, eqb-true, ne-eqb}
 use Rattle.model.specs.Lists.{keep}
@@ -22,13 +22,15 @@ pub record Sent (Q : Type 0) : Type 0 where
   pub message : Q
 
 module _ {Q : Type 0} where
-  -- the requests of one caller, and those of all others
+  -- a request is one caller's
   abbrev sentBy : ℕ → Sent Q → Bool
   sentBy i z = eqb (z .caller) i
 
+  -- what one caller sends
   unfoldable pub by : ℕ → List (Sent Q) → List (Sent Q)
   by i zs = keep (sentBy i) zs
 
+  -- what all others send
   unfoldable pub others : ℕ → List (Sent Q) → List (Sent Q)
   others i zs = keep (λ z. not (sentBy i z)) zs
 
@@ -39,13 +41,16 @@ module _ {Q : Type 0} where
 
 -- the forest after requests, and what they tell one caller; `plan` says what a caller's step tells and does
 module _ {Q A : Type 0} (plan : ℕ → Forest → Q → Did A) where
+  -- the forest after one request
   abbrev pub stepped : Forest → Sent Q → Forest
   stepped f z = edited f (plan (z .caller) f (z .message) .acts)
 
+  -- the forest after requests
   unfoldable pub forestAfter : Forest → List (Sent Q) → Forest
   forestAfter f [] = f
   forestAfter f (z ∷ zs) = forestAfter (stepped f z) zs
 
+  -- what requests tell one caller
   unfoldable pub answersTo : ℕ → Forest → List (Sent Q) → List A
   answersTo i f [] = []
   answersTo i f (z ∷ zs) = cond (eqb (z .caller) i) (plan (z .caller) f (z .message) .told ∷ answersTo i (stepped f z) zs) (answersTo i (stepped f z) zs)

@@ -1,8 +1,8 @@
 -- The part of a forest in a set of rows: what the entries outside it drop out of.
 use Prim.Native.Nat.{ℕ}
+use mathlib.Core.Path.{ap, ap₂, refl, sym, _∙_, _≡_}
 use mathlib.Core.Bool.{Bool, cond, false, false≢true, not, true≢false}
 use mathlib.Core.List.{List, [], _∷_}
-use mathlib.Core.Path.{_∙_, _≡_, ap, ap₂, refl, sym}
 use lib.Dec.{eqb}
 use borrow.Author.Tests.{eqb-true, ne-eqb}
 use Rattle.model.specs.Lists.{keep}
@@ -88,6 +88,7 @@ closed-of D (tree e b a) h = (
   closed-of D a (λ x y u i. h x y (record { trees = u .trees; at = after (u .at); has = u .has }) i),
 )
 
+-- an entry's row is in D
 abbrev pub rowIn : (ℕ → Bool) → Entry → Bool
 rowIn D e = D (e .row)
 

@@ -1,8 +1,8 @@
 -- Sets of rows that bring what an estate brings, and that share no occupied row, lie in domains that are apart: the places of a set are those
 -- of the objects that its rows name, and its domain the occupied rows of the set with the rows at those places.
-use Prim.Native.Nat.{_*_, _+_, _-_, _/_, _<_, _^_, _≤_, suc, ℕ}
-use mathlib.Core.Bool.{Bool, _&&_, _||_, false, true, true≢false}
-use mathlib.Core.Path.{_∙_, _≡_, ap, refl, subst, sym}
+use Prim.Native.Nat.{suc, ℕ, _*_, _+_, _-_, _/_, _<_, _^_, _≤_}
+use mathlib.Core.Path.{ap, refl, subst, sym, _∙_, _≡_}
+use mathlib.Core.Bool.{Bool, false, true, true≢false, _&&_, _||_}
 use native.Mathlib.Nat.{add-mul, add-sub-cancel-left, add-zero, mul-le-mul-right, suc-mul}
 use native.Mathlib.Omega.{arith}
 use lib.Dec.{eqb, leb}
@@ -40,6 +40,7 @@ pub record Whole (E : Edition) (f : Forest) (C : ℕ → Bool) : Type 0 where
 spans : Edition → Cap → ℕ → Bool
 spans E c k = (isCNode c || isUntyped c) && leb (firstRow E c) k && leb (suc (k - firstRow E c) * 2 ^ E .slot) (bytes E c)
 
+-- the same as two facts
 record Spans (E : Edition) (c : Cap) (k : ℕ) : Type 0 where
   low : firstRow E c ≤ k
   high : suc (k - firstRow E c) * 2 ^ E .slot ≤ bytes E c

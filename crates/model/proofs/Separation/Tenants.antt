@@ -1,9 +1,9 @@
 -- Tenants whose estates share no row do not disturb each other: on a sound forest each is told what it is told alone, and any merge of their
 -- requests ends in the forest of any one-after-another order.
-use Prim.Native.Nat.{_<_, ℕ}
+use Prim.Native.Nat.{ℕ, _<_}
+use mathlib.Core.Path.{refl, subst, sym, _∙_, _≡_}
 use mathlib.Core.Bool.{Bool, not, true, true≢false}
 use mathlib.Core.List.{List, _++_}
-use mathlib.Core.Path.{_∙_, _≡_, refl, subst, sym}
 use borrow.Author.Tests.{not-true}
 use Rattle.model.specs.declared.Answer.{Answer}
 use Rattle.model.specs.Lists.{keep, member, shareNone}
@@ -50,9 +50,11 @@ module _ {E : Edition} {m : ℕ} {f : Forest} (s : Sound E m f) where
   module _ (sane : Sane E) (roots : List ℕ)
       (cnodes : (a : ℕ) → Has a roots → isCNode (capAt f a) ≡ true)
       (apart : (a b : ℕ) → Has a roots → Has b roots → (a ≡ b → ⊥) → shareNone (estate E f (rows E m) a) (estate E f (rows E m) b) ≡ true) where
+    -- the tenants, by their root rows
     abbrev pub Who : ℕ → Type 0
     Who a = Has a roots
 
+    -- a tenant's places and rows
     abbrev M : ℕ → ℕ → Bool
     M a = placesIn E f (inEstate a)
 

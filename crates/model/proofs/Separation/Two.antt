@@ -1,9 +1,9 @@
 -- Two tenants whose estates share no row: any merge of their requests gives each its answers, and ends in the forest that the first's
 -- requests and then the second's end in.
-use Prim.Native.Nat.{_<_, ℕ}
+use Prim.Native.Nat.{ℕ, _<_}
+use mathlib.Core.Path.{ap, refl, subst, sym, _∙_, _≡_}
 use mathlib.Core.Bool.{not, true, true≢false}
 use mathlib.Core.List.{List, List·Memᴰ·eq-of-singleton, List·Memᴰ·head, List·Memᴰ·tail, [], _++_, _∷_}
-use mathlib.Core.Path.{_∙_, _≡_, ap, refl, subst, sym}
 use lib.Dec.{eqb}
 use borrow.Author.Tests.{eq-eqb, ne-eqb, not-true}
 use Rattle.model.specs.Lists.{member, shareNone}
@@ -38,6 +38,7 @@ share-sym xs ys h =
     (λ t. absurd (true≢false (sym (has-member m) ∙ not-true (member k ys) (all-has (λ k. not (member k ys)) h (member-has k xs t)))))
     (λ f. rw f))
 
+-- each is told what it is told alone, and the forest is that of the first's requests before the second's
 pub record Undisturbed (E : Edition) (f : Forest) (a b : ℕ) (zs : List (Sent (List ℕ))) : Type 0 where
   pub first : answersTo (asked E) a f zs ≡ answersTo (asked E) a f (by a zs)
   pub second : answersTo (asked E) b f zs ≡ answersTo (asked E) b f (by b zs)
