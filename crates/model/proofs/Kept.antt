@@ -23,3 +23,4 @@ pub mod Requests
 pub mod Serving
 pub mod Memory
 pub mod Reuse
+pub mod Booting
