@@ -1,9 +1,10 @@
 -- Two checks that come to the same, of which what passes has a property: a do-block is walked line by line.
+use mathlib.Core.Path.{ap, refl, subst, _≡_}
 use mathlib.Core.Bool.{Bool, false, true}
-use mathlib.Core.Path.{_≡_, ap, refl, subst}
 use Rattle.model.specs.declared.Answer.{Answer}
-use Rattle.model.specs.Check.{Check, _>>=_, _>>_, passed, refuse, refused}
+use Rattle.model.specs.Check.{Check, passed, refuse, refused, _>>=_, _>>_}
 
+-- what passes, if anything does, has a property
 abbrev pub Passes : {A : Type 0} → (A → Type 0) → Check A → Type 0
 Passes P (passed a) = P a
 Passes P (refused r) = Unit {0}
@@ -15,6 +16,7 @@ passes-map h (refused r) p = tt
 pub passes-at : {A : Type 0} (P : A → Type 0) {c : Check A} {a : A} → Passes P c → c ≡ passed a → P a
 passes-at P h e = subst (Passes P) e h
 
+-- two checks come to the same, and what passes has a property
 pub record Twin {A : Type 0} (P : A → Type 0) (c c′ : Check A) : Type 0 where
   pub same : c ≡ c′
   pub holds : Passes P c

@@ -1,8 +1,8 @@
 -- What a request that passes does, and what its tests have shown by then, where R are the rows that it may name.
-use Prim.Native.Nat.{_+_, _-_, _/_, _<_, _^_, _≤_, ℕ}
-use mathlib.Core.Bool.{Bool, _&&_, false, not, true}
-use mathlib.Core.List.{List, [], _∷_}
+use Prim.Native.Nat.{ℕ, _+_, _-_, _/_, _<_, _^_, _≤_}
 use mathlib.Core.Path.{_≡_}
+use mathlib.Core.Bool.{Bool, false, not, true, _&&_}
+use mathlib.Core.List.{List, [], _∷_}
 use lib.Dec.{eqb}
 use Rattle.model.specs.declared.Cap.{Cap}
 use Rattle.model.specs.declared.Change.{Change}
@@ -57,6 +57,7 @@ module _ (E : Edition) (f : Forest) (R : ℕ → Bool) where
     pub vacant : (i : ℕ) → i < q .window → isEmpty (capAt f (first + i)) ≡ true
     pub enough : q .window ≤ (bytes E (capAt f k) - start f k (capAt f k)) / 2 ^ exponent E (q .object) (q .size)
 
+  -- what a request does: one of five deals
   pub data Deal : Done → Type 0 where
     copies : {from to : ℕ} {c : Cap} → Taken from to c → (isUntyped c && hasChildren f from) ≡ false → Deal (record { count = 1; deed = graft from (full E) (record { row = to; cap = fresh c } ∷ []) })
     moves : {from to : ℕ} {c : Cap} → Taken from to c → Deal (record { count = 0; deed = moved from to c })

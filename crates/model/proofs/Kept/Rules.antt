@@ -1,8 +1,8 @@
 -- The rules on a forest, entry by entry; and that a removal keeps them.
-use Prim.Native.Nat.{_+_, _<_, ℕ}
+use Prim.Native.Nat.{ℕ, _+_, _<_}
+use mathlib.Core.Path.{ap, sym, _∙_, _≡_}
 use mathlib.Core.Bool.{Bool, false, true, true≢false}
 use mathlib.Core.List.{List}
-use mathlib.Core.Path.{_∙_, _≡_, ap, sym}
 use native.Mathlib.Omega.{arith}
 use borrow.Author.Tests.{not-true}
 use Rattle.model.specs.declared.Cap.{Cap}

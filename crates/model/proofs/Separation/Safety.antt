@@ -1,8 +1,8 @@
 -- Whatever a request in a domain does is safe for the domain.
-use Prim.Native.Nat.{_*_, _+_, _-_, _/_, _<_, _^_, _≤_, suc, ℕ}
+use Prim.Native.Nat.{suc, ℕ, _*_, _+_, _-_, _/_, _<_, _^_, _≤_}
+use mathlib.Core.Path.{ap, refl, subst, sym, _∙_, _≡_}
 use mathlib.Core.Bool.{Bool, false, false≢true, true, true≢false}
 use mathlib.Core.List.{List, [], _∷_}
-use mathlib.Core.Path.{_∙_, _≡_, ap, refl, subst, sym}
 use native.Mathlib.Nat.{add-mul, add-mul-div-right, mul-assoc, mul-le-mul-right, suc-mul}
 use native.Mathlib.Omega.{arith}
 use lib.Dec.{eqb, ltb}
