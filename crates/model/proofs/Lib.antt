@@ -3,3 +3,4 @@ pub mod Members
 pub mod Distinct
 pub mod State
 pub mod Order
+pub mod Words

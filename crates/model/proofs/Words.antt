@@ -1,0 +1,13 @@
+pub mod Listing
+pub mod Rows
+pub mod ReadWrite
+pub mod Chain
+pub mod WellFormed
+pub mod Around
+pub mod Caps
+pub mod Stores
+pub mod Edits
+pub mod Linking
+pub mod Runs
+pub mod Edited
+pub mod Grafted
