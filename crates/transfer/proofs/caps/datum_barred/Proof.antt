@@ -1,3 +1,4 @@
+-- The three tests of the definition.
 use mathlib.Core.Logic.{⊎-elim}
 use borrow.Author.Tests.{eq-eqb, ne-eqb}
 use borrow.Author.Needs.{needs}
@@ -6,8 +7,6 @@ use Rattle.model.specs.Operations.{datumBarred}
 use Rattle.transfer.proofs.Guards.{small, over}
 use Rattle.transfer.proofs.caps.datum_barred.Statement.{statement}
 use Rattle.transfer.proofs.caps.datum_barred.Tie as tie
-
--- The three tests of the definition.
 
 guard-size-in-requires : tie.Need-guard-size-in-requires
 guard-size-in-requires c κs = search needs

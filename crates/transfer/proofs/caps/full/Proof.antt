@@ -1,3 +1,4 @@
+-- By kind.
 use Prim.Native.Nat.{suc-le-suc}
 use mathlib.Core.Path.{_∙_}
 use borrow.Author.Tests.{eq-eqb, ne-eqb}
@@ -7,8 +8,6 @@ use Rattle.model.specs.Operations.{full}
 use Rattle.transfer.proofs.Guards.{filled}
 use Rattle.transfer.proofs.caps.full.Statement.{statement}
 use Rattle.transfer.proofs.caps.full.Tie as tie
-
--- By kind.
 
 shl-with-third : tie.Need-shl-with-third
 unfolding isUntyped

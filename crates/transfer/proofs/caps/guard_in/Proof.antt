@@ -1,3 +1,4 @@
+-- A shift of 1 is the power of two by which the guard is cut.
 use Prim.Native.Nat.{_%_}
 use native.Mathlib.Omega.{arith}
 use lib.Pow.{pow-pos}
@@ -6,8 +7,6 @@ use Rattle.model.specs.Operations.{guardSizeIn, guardIn}
 use Rattle.transfer.proofs.Guards.{one-shl}
 use Rattle.transfer.proofs.caps.guard_in.Statement.{statement}
 use Rattle.transfer.proofs.caps.guard_in.Tie as tie
-
--- A shift of 1 is the power of two by which the guard is cut.
 
 shl-result : tie.Need-shl-result
 shl-result c = search needs

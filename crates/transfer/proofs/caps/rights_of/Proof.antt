@@ -1,10 +1,9 @@
+-- The kinds 3, 4 and 6.
 use mathlib.Core.Logic.{⊎-elim, inl, inr}
 use borrow.Author.Tests.{eq-eqb, ne-eqb}
 use Rattle.model.specs.Cap.{rightsOf}
 use Rattle.transfer.proofs.caps.rights_of.Statement.{statement}
 use Rattle.transfer.proofs.caps.rights_of.Tie as tie
-
--- The kinds 3, 4 and 6.
 
 returns : tie.Need-returns
 unfolding rightsOf
