@@ -1,1 +1,3 @@
 pub mod Altered
+pub mod Lent
+pub mod Ways

@@ -1,0 +1,16 @@
+-- The tables as they are lent, and a place that can be looked up in them.
+use mathlib.Core.Path.{_≡_}
+use mathlib.Core.Bool.{true}
+use mathlib.Core.List.{List}
+use Prim.Native.Nat.{ℕ}
+use Rattle.model.specs.declared.Place.{Place}
+use Rattle.model.specs.Cap.{isCNode}
+use Rattle.model.specs.Tables.{Tables}
+use Rattle.lookup.specs.Ready.{Usable}
+
+abbrev pub lent : (table control : List ℕ) → Tables
+lent table control = record { table = table; control = control }
+
+-- a place whose root, where it is a CNode, is one of the table's
+abbrev pub Reached : List ℕ → Place → Type 0
+Reached t p = isCNode (p .root) ≡ true → Usable t (p .root)
