@@ -16,3 +16,5 @@ pub mod Removed
 pub mod Descendants
 pub mod Links
 pub mod Swapped
+pub mod Rotated
+pub mod Booted

@@ -20,7 +20,17 @@ use Rattle.model.specs.declared.Cap.{Cap}
 use Rattle.model.specs.Operations.{moved}
 use Rattle.model.specs.Tree.{edit}
 use Rattle.model.specs.Stores.{linked, unlinked}
-use Rattle.model.specs.Tables.{Listed, State, rows, word, firstOf, rowsFrom, listing, write}
+use Rattle.model.specs.Tables.{Listed, State, Tables, rows, word, firstOf, rowsFrom, listing, write}
+
+-- row `to` is linked after row `from` with c and the same depth, and row `from` unlinked
+abbrev pub movedTables : Edition → Tables → (from to : ℕ) → Cap → Tables
+movedTables E t from to c =
+    record {
+      table =
+          unlinked (linked (t .table) from (word (t .table) from 5) (record { entry = record { row = to; cap = c }; depth = word (t .table) from 7 })) from
+          (word (t .table) from 6) to;
+      control = set (t .control) 2 (cond (eqb (word (t .table) from 6) (E .none)) to (getD (t .control) 2 0));
+    }
 
 module _ (E : Edition) (s : State) (fits : Fits E (rows E (s .m)) (s .forest)) (from : ℕ) (p : At from (s .forest)) (to : ℕ) (c : Cap)
     (f : Fresh to (rowsOf (s .forest))) (l : to < rows E (s .m)) where
@@ -43,12 +53,7 @@ module _ (E : Edition) (s : State) (fits : Fits E (rows E (s .m)) (s .forest)) (
           (all-drop (λ j. j ≡ to → ⊥) (listedBefore p) (listedOf p) (listedAfter p) fresh-to))
         (all-put (λ j. j < rows E (s .m)) (listedBefore p) placed (listedAfter p) (all-drop (λ j. j < rows E (s .m)) (listedBefore p) (listedOf p) (listedAfter p) (below-at E s fits from p)) l)
 
-  pub write-moved :
-      write E (record { m = s .m; r = s .r; forest = edit (moved from to c) (s .forest) })
-      ≡ record
-        { table = unlinked (linked (write E s .table) from (word (write E s .table) from 5) (record { entry = record { row = to; cap = c }; depth = word (write E s .table) from 7 })) from (word (write E s .table) from 6) to
-        ; control = set (write E s .control) 2 (cond (eqb (word (write E s .table) from 6) (E .none)) to (getD (write E s .control) 2 0))
-        }
+  pub write-moved : write E (record { m = s .m; r = s .r; forest = edit (moved from to c) (s .forest) }) ≡ movedTables E (write E s) from to c
   unfolding write placed firstOf
   write-moved = λ i. record { table = table i; control = s .m ∷ s .r ∷ first i ∷ long i ∷ [] }
     where
