@@ -1,1 +1,3 @@
 pub mod Guards
+pub mod Slots
+pub mod Plans

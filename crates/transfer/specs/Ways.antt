@@ -9,13 +9,12 @@ use Rattle.model.specs.declared.Cap.{Cap}
 use Rattle.model.specs.declared.Change.{Change}
 use Rattle.model.specs.declared.Failure.the-variants.{Missing}
 use Rattle.model.specs.declared.Place.{Place}
-use Rattle.model.specs.Edition.{Edition, edition32}
+use Rattle.model.specs.Edition.{Edition}
 use Rattle.model.specs.Cap.{isEmpty, isUntyped}
 use Rattle.model.specs.Check.{Check, passed, refused, _>>=_, _>>_, refuse}
 use Rattle.model.specs.Tree.{Forest, hasChildren, graft}
-use Rattle.model.specs.Tables.{Tables, capOf}
+use Rattle.model.specs.Tables.{capOf}
 use Rattle.model.specs.Lookup.{lookup}
-use Rattle.model.specs.Rules.{wellFormed}
 use Rattle.model.specs.Operations.{Done, slotOf, change, full, fresh, moved}
 use Rattle.transfer.specs.declared.ways.Way.{Way}
 use Rattle.transfer.specs.declared.ways.Plan.{Plan}
@@ -67,15 +66,14 @@ ofPlan (Refused a) = refused a
 abbrev pub InTable : List ℕ → ℕ → Type 0
 InTable t k = k * 8 + 8 ≤ length t
 
--- it is what the definition gives, and the rows of a way lie in the table
+-- a way from an occupied row of the table to an empty one
+pub record Open (t : List ℕ) (w : Way) : Type 0 where
+  pub fromIn : InTable t (w .from .0)
+  pub toIn : InTable t (w .to .0)
+  pub held : isEmpty (capOf t (w .from .0)) ≡ false
+  pub free : isEmpty (capOf t (w .to .0)) ≡ true
+
+-- it is what the definition gives, and a way is open
 pub record Plans (t : List ℕ) (c : Check Way) (r : Plan) : Type 0 where
   pub is : ofPlan r ≡ c
-  pub inside : (w : Way) → r ≡ Go w → InTable t (w .from .0) × InTable t (w .to .0)
-
--- a way from an occupied row of well-formed tables to an empty one
-pub record Along (t : Tables) (w : Way) : Type 0 where
-  pub formed : wellFormed edition32 t ≡ true
-  pub fromIn : InTable (t .table) (w .from .0)
-  pub toIn : InTable (t .table) (w .to .0)
-  pub held : isEmpty (capOf (t .table) (w .from .0)) ≡ false
-  pub free : isEmpty (capOf (t .table) (w .to .0)) ≡ true
+  pub goes : (w : Way) → r ≡ Go w → Open t w

@@ -71,7 +71,7 @@ pub fn held_slot(t: &[u32], p: Place) -> Found
 }
 
 // From which row to which, and as what.
-pub fn plan(t: &[u32], dest: Place, source: Place, how: Change) -> Plan
+pub fn planned(t: &[u32], dest: Place, source: Place, how: Change) -> Plan
     requires { ⌜ Ready (now t) ⌝ ∗ ⌜ Reached (now t) dest ⌝ ∗ ⌜ Reached (now t) source ⌝ }
     ensures { λ r. ⌜ spec.Plans (now (t .entry)) (spec.way edition32 (capOf (now (t .entry))) dest source how) r ⌝ }
 {
