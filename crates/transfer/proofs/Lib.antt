@@ -1,3 +1,6 @@
 pub mod Guards
 pub mod Slots
 pub mod Plans
+pub mod Bounds
+pub mod Along
+pub mod Planned

@@ -9,12 +9,13 @@ use Rattle.model.specs.declared.Cap.{Cap}
 use Rattle.model.specs.declared.Change.{Change}
 use Rattle.model.specs.declared.Failure.the-variants.{Missing}
 use Rattle.model.specs.declared.Place.{Place}
-use Rattle.model.specs.Edition.{Edition}
+use Rattle.model.specs.Edition.{Edition, edition32}
 use Rattle.model.specs.Cap.{isEmpty, isUntyped}
 use Rattle.model.specs.Check.{Check, passed, refused, _>>=_, _>>_, refuse}
 use Rattle.model.specs.Tree.{Forest, hasChildren, graft}
-use Rattle.model.specs.Tables.{capOf}
+use Rattle.model.specs.Tables.{Tables, capOf}
 use Rattle.model.specs.Lookup.{lookup}
+use Rattle.model.specs.Rules.{wellFormed}
 use Rattle.model.specs.Operations.{Done, slotOf, change, full, fresh, moved}
 use Rattle.transfer.specs.declared.ways.Way.{Way}
 use Rattle.transfer.specs.declared.ways.Plan.{Plan}
@@ -77,3 +78,8 @@ pub record Open (t : List ℕ) (w : Way) : Type 0 where
 pub record Plans (t : List ℕ) (c : Check Way) (r : Plan) : Type 0 where
   pub is : ofPlan r ≡ c
   pub goes : (w : Way) → r ≡ Go w → Open t w
+
+-- an open way in well-formed tables
+pub record Along (t : Tables) (w : Way) : Type 0 where
+  pub formed : wellFormed edition32 t ≡ true
+  pub way : Open (t .table) w

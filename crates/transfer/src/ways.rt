@@ -1,8 +1,8 @@
 // The tests that Copy, Mint, Move and Mutate share: the destination is empty, the source occupied, the datum allowed.
-use crate::caps::change;
 use crate::caps::Altered;
-use lookup::find;
+use crate::caps::change;
 use lookup::Found;
+use lookup::find;
 use model::Answer;
 use model::Cap;
 use model::Change;

@@ -1,69 +1,49 @@
 -- The law of `Plans` for each way out.
 use mathlib.Core.Path.{refl}
-use Rattle.transfer.proofs.Plans.{no-destination, no-source, barred, planned}
 use borrow.Author.Needs.{needs}
+use Rattle.transfer.proofs.Plans.{no-destination, no-source, barred, planned}
 use Rattle.transfer.proofs.ways.planned.Statement.{statement}
 use Rattle.transfer.proofs.ways.planned.Tie as tie
-use Rattle.transfer.proofs.ways.planned.Reads as reads
-use Rattle.transfer.proofs.ways.planned.Lts as lts
-use Rattle.table.proofs.cap_at.Reads as cap-at-reads
-use Rattle.transfer.proofs.caps.change.Reads as change-reads
-use Rattle.transfer.proofs.ways.free_slot.Reads as free-slot-reads
-use Rattle.transfer.proofs.ways.held_slot.Reads as held-slot-reads
 
--- src/ways.rt:78:9
 free-slot-requires : tie.Need-free-slot-requires
 free-slot-requires c κs = search needs
 
--- src/ways.rt:80:24
 enum-known-free : tie.Need-enum-known-free
 enum-known-free c = search needs
 
--- src/ways.rt:81:19
 enum-known-free-2 : tie.Need-enum-known-free-2
 enum-known-free-2 c = search needs
 
--- src/ways.rt:82:17
 held-slot-requires : tie.Need-held-slot-requires
 held-slot-requires c κs = search needs
 
--- src/ways.rt:84:32
 enum-known-held : tie.Need-enum-known-held
 enum-known-held c = search needs
 
--- src/ways.rt:85:27
 enum-known-held-2 : tie.Need-enum-known-held-2
 enum-known-held-2 c = search needs
 
--- src/ways.rt:86:47
 cap-at-requires : tie.Need-cap-at-requires
 cap-at-requires c κs = (rw (c .before .held2 .given .1) at (c .before .before .before .held-slot .ensures)) .inside _ refl
 
--- src/ways.rt:86:25
 change-requires : tie.Need-change-requires
 change-requires c κs = search needs
 
--- src/ways.rt:88:58
 enum-told : tie.Need-enum-told
 enum-told c = search needs
 
--- src/ways.rt:89:37
 enum-known-altered : tie.Need-enum-known-altered
 enum-known-altered c = search needs
 
--- src/ways.rt:74:1
 returns : tie.Need-returns
 returns c = no-destination _ _ _ _ _ (rw (c .before .free .given .1) at (c .before .before .before .free-slot .ensures))
 
--- src/ways.rt:74:1
 returns-2 : tie.Need-returns-2
 returns-2 c = no-source _ _ _ _ _ (rw (c .before .before .before .before .before .free2 .given .1) at (c .before .before .before .before .before .before .before .free-slot .ensures)) _ (rw (c .before .held .given .1) at (c .before .before .before .held-slot .ensures))
 
--- src/ways.rt:74:1
 returns-3 : tie.Need-returns-3
 returns-3 c = barred _ _ _ _ _ (rw (c .before .before .before .before .before .before .before .before .before .free2 .given .1) at (c .before .before .before .before .before .before .before .before .before .before .before .free-slot .ensures)) _ (rw (c .before .before .before .before .before .held2 .given .1) at (c .before .before .before .before .before .before .before .held-slot .ensures)) _ (c .before .before .before .cap-at .ensures) (rw (c .enum-told .given .1) at (c .before .before .change .ensures))
 
--- src/ways.rt:74:1
 returns-4 : tie.Need-returns-4
 returns-4 c = planned _ _ _ _ _ (rw (c .before .before .before .before .before .before .before .before .before .before .free2 .given .1) at (c .before .before .before .before .before .before .before .before .before .before .before .before .free-slot .ensures)) _ (rw (c .before .before .before .before .before .before .held2 .given .1) at (c .before .before .before .before .before .before .before .before .held-slot .ensures)) _ (c .before .before .before .before .cap-at .ensures) _ (rw (c .before .altered .given .1) at (c .before .before .before .change .ensures))
 
