@@ -4,3 +4,4 @@ pub mod Checks
 pub mod Copied
 pub mod Relocated
 pub mod Next
+pub mod Turned

@@ -1,14 +1,12 @@
--- Copy and Move along a way: the words that the code stores are those of the tables after it.
+-- Copy along a way: the test of the next row is that of children, and the words that the code stores are those of the tables after it.
 use Prim.Native.Nat.{ℕ, _+_, _*_, _≤_, _<_}
 use mathlib.Core.Path.{_≡_, refl, sym, ap, _∙_}
-use mathlib.Core.Bool.{Bool, true, false, cond, _&&_}
+use mathlib.Core.Bool.{Bool, true, false, _&&_}
 use mathlib.Core.List.{List}
 use mathlib.Core.Logic.{⊎-elim}
 use native.Mathlib.Nat.{add-comm}
 use native.Mathlib.Omega.{arith}
-use lib.Dec.{eqb, ltb}
 use lib.ListN.{length, getD, set}
-use lib.Seq.{set-getD}
 use borrow.Author.Tests.{lt-ltb, le-ltb, eq-eqb, ne-eqb}
 use Rattle.model.specs.declared.Answer.the-variants.{Success, RevokeFirst}
 use Rattle.model.specs.declared.Cap.{Cap}
@@ -16,7 +14,7 @@ use Rattle.model.specs.Edition.{edition32}
 use Rattle.model.specs.Cap.{isEmpty, isUntyped}
 use Rattle.model.specs.Check.{passed, refused, _>>_, refuse}
 use Rattle.model.specs.Tree.{hasChildren}
-use Rattle.model.specs.Stores.{linked, unlinked, recapped}
+use Rattle.model.specs.Stores.{linked, recapped}
 use Rattle.model.specs.Tables.{Tables, word, capOf, read}
 use Rattle.model.specs.Rules.{wellFormed}
 use Rattle.model.specs.Operations.{full, fresh}
@@ -24,13 +22,12 @@ use Rattle.model.specs.Request.{carriedOut}
 use Rattle.model.proofs.Words.WellFormed.{roomy32, formed}
 use Rattle.model.proofs.Transfer.Outcome.{comes-refused, comes-done}
 use Rattle.model.proofs.Transfer.Copied.{write-copied}
-use Rattle.model.proofs.Transfer.Relocated.{write-relocated}
 use Rattle.model.proofs.Transfer.Next.{next-cases, children-words}
 use Rattle.table.specs.Children.{deeperNext}
 use Rattle.transfer.specs.declared.ways.Way.{Way}
 use Rattle.transfer.specs.Lent.{lent, after}
-use Rattle.transfer.specs.Ways.{copied, copyAlong, relocated, Along}
-use Rattle.transfer.proofs.Bounds.{row-below, count-small}
+use Rattle.transfer.specs.Ways.{copied, copyAlong, Along}
+use Rattle.transfer.proofs.Bounds.{row-below}
 
 -- on well-formed tables the test of the next row is that of children
 children : (t : Tables) → wellFormed edition32 t ≡ true → (k : ℕ) → isEmpty (capOf (t .table) k) ≡ false → deeperNext (t .table) k ≡ hasChildren (read edition32 t .forest) k
@@ -58,8 +55,6 @@ childless c b r e h = go (isUntyped c)
     go false = refl
 
 module _ (t : Tables) (w : Way) (along : Along t w) where
-  -- ---- Copy and Mint
-
   pub copies : (next depth : ℕ) (source c : Cap) (u v : List ℕ) → next ≡ word (t .table) (w .from .0) 5 → depth ≡ word (t .table) (w .from .0) 7
       → source ≡ full edition32 (capOf (t .table) (w .from .0)) → c ≡ fresh (w .cap) → u ≡ recapped (t .table) (w .from .0) source
       → v ≡ linked u (w .from .0) next (record { entry = record { row = w .to .0; cap = c }; depth = depth + 1 })
@@ -83,19 +78,3 @@ module _ (t : Tables) (w : Way) (along : Along t w) where
       (ap (λ (b : Bool). refuse RevokeFirst b >> passed (copied edition32 w))
       (ap (λ (b : Bool). isUntyped (w .cap) && b) (sym (children t (along .formed) (w .from .0) (along .way .held))) ∙ none))
       done
-
-  -- ---- Move and Mutate
-
-  module _ (next last depth : ℕ) (u v : List ℕ) (n : next ≡ word (t .table) (w .from .0) 5) (l : last ≡ word (t .table) (w .from .0) 6) (d : depth ≡ word (t .table) (w .from .0) 7)
-      (eu : u ≡ linked (t .table) (w .from .0) next (record { entry = record { row = w .to .0; cap = w .cap }; depth = depth })) (ev : v ≡ unlinked u (w .from .0) last (w .to .0)) where
-    written : record { table = v; control = set (t .control) 2 (cond (eqb last 4294967295) (w .to .0) (getD (t .control) 2 0)) } ≡ after edition32 t (relocated w)
-    unfolding relocated
-    written =
-        rw (ev, eu, l, n, d)
-        (sym (write-relocated edition32 roomy32 t (along .formed) (w .from .0) (w .to .0) (w .cap) (along .way .held) (along .way .free) (row-below t (along .formed) (w .to .0) (along .way .toIn))))
-
-    pub moves-first : last ≡ 4294967295 → lent v (set (t .control) 2 (w .to .0)) ≡ after edition32 t (relocated w)
-    moves-first h = rw (eq-eqb last 4294967295 h) at written
-
-    pub moves-later : (last ≡ 4294967295 → ⊥) → lent v (t .control) ≡ after edition32 t (relocated w)
-    moves-later h = rw (ne-eqb last 4294967295 h, set-getD) at written

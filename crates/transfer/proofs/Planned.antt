@@ -16,11 +16,13 @@ use Rattle.model.specs.Operations.{Done, find, vacant, present, copy, move}
 use Rattle.model.specs.Request.{Outcome, carriedOut}
 use Rattle.model.proofs.Words.WellFormed.{roomy32}
 use Rattle.model.proofs.Words.Caps.{caps-read}
+use Rattle.model.proofs.Words.Moved.{movedTables}
 use Rattle.model.proofs.Transfer.Checks.{bind-bind, then-bind}
 use Rattle.model.proofs.Transfer.Outcome.{comes-refused, comes-done, comes-same}
+use Rattle.model.proofs.Transfer.Relocated.{write-relocated}
 use Rattle.transfer.specs.declared.ways.Way.{Way}
-use Rattle.transfer.specs.Lent.{after}
-use Rattle.transfer.specs.Ways.{freeSlot, heldSlot, way, copied, copyAlong, relocated}
+use Rattle.transfer.specs.Ways.{freeSlot, heldSlot, way, copied, copyAlong, relocated, Open}
+use Rattle.transfer.proofs.Bounds.{row-below}
 
 copy-is : (E : Edition) (f : Forest) (dest source : Place) (how : Change) → copy E f dest source how ≡ (way E (capAt f) dest source how >>= copyAlong E f)
 unfolding copy way freeSlot heldSlot copyAlong copied find vacant present _>>=_ _>>_
@@ -60,10 +62,10 @@ module _ (t : Tables) (e : wellFormed edition32 t ≡ true) (dest source : Place
   pub move-stops : (a : Answer) → refused a ≡ way edition32 (capOf (t .table)) dest source how → record { answer = a; tables = t } ≡ carriedOut edition32 t (λ f. move edition32 f dest source how)
   move-stops a refusal = stops (λ f. move edition32 f dest source how) (λ f w. passed (relocated w)) (λ f. move-is edition32 f dest source how) a refusal
 
-  pub move-goes : (w : Way) → passed w ≡ way edition32 (capOf (t .table)) dest source how → (u : Tables) → u ≡ after edition32 t (relocated w)
+  pub move-goes : (w : Way) → passed w ≡ way edition32 (capOf (t .table)) dest source how → Open (t .table) w → (u : Tables) → u ≡ movedTables edition32 t (w .from .0) (w .to .0) (w .cap)
       → record { answer = Success 0; tables = u } ≡ carriedOut edition32 t (λ f. move edition32 f dest source how)
   unfolding relocated
-  move-goes w found u done =
+  move-goes w found open-way u done =
       comes-done edition32 t (λ f. move edition32 f dest source how) (relocated w) u
       (goes (λ f. move edition32 f dest source how) (λ f v. passed (relocated v)) (λ f. move-is edition32 f dest source how) w found)
-      done
+      (done ∙ sym (write-relocated edition32 roomy32 t e (w .from .0) (w .to .0) (w .cap) (open-way .held) (open-way .free) (row-below t e (w .to .0) (open-way .toIn))))

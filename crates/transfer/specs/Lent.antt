@@ -2,7 +2,8 @@
 use mathlib.Core.Path.{_≡_}
 use mathlib.Core.Bool.{true}
 use mathlib.Core.List.{List}
-use Prim.Native.Nat.{ℕ}
+use Prim.Native.Nat.{ℕ, _+_, _*_, _≤_}
+use lib.ListN.{length}
 use Rattle.model.specs.declared.Place.{Place}
 use Rattle.model.specs.Edition.{Edition}
 use Rattle.model.specs.Cap.{isCNode}
@@ -13,6 +14,10 @@ use Rattle.lookup.specs.Ready.{Usable}
 
 abbrev pub lent : (table control : List ℕ) → Tables
 lent table control = record { table = table; control = control }
+
+-- row k lies in the table
+abbrev pub InTable : List ℕ → ℕ → Type 0
+InTable t k = k * 8 + 8 ≤ length t
 
 -- a place whose root, where it is a CNode, is one of the table's
 abbrev pub Reached : List ℕ → Place → Type 0

@@ -1,9 +1,8 @@
 -- What Copy, Mint, Move and Mutate share, where `caps` gives the capability in each row: the rows and what the capability becomes.
-use Prim.Native.Nat.{ℕ, _+_, _*_, _≤_}
+use Prim.Native.Nat.{ℕ}
 use mathlib.Core.Path.{_≡_}
 use mathlib.Core.Bool.{true, false, not, _&&_}
 use mathlib.Core.List.{List, [], _∷_}
-use lib.ListN.{length}
 use Rattle.model.specs.declared.Answer.the-variants.{FailedLookup, DeleteFirst, RevokeFirst}
 use Rattle.model.specs.declared.Cap.{Cap}
 use Rattle.model.specs.declared.Change.{Change}
@@ -17,6 +16,7 @@ use Rattle.model.specs.Tables.{Tables, capOf}
 use Rattle.model.specs.Lookup.{lookup}
 use Rattle.model.specs.Rules.{wellFormed}
 use Rattle.model.specs.Operations.{Done, slotOf, change, full, fresh, moved}
+use Rattle.transfer.specs.Lent.{InTable}
 use Rattle.transfer.specs.declared.ways.Way.{Way}
 use Rattle.transfer.specs.declared.ways.Plan.{Plan}
 use Rattle.transfer.specs.declared.ways.Plan.the-variants.{Go, Refused}
@@ -62,10 +62,6 @@ relocated w = record { count = 0; deed = moved (w .from .0) (w .to .0) (w .cap) 
 abbrev pub ofPlan : Plan → Check Way
 ofPlan (Go w) = passed w
 ofPlan (Refused a) = refused a
-
--- row k lies in the table
-abbrev pub InTable : List ℕ → ℕ → Type 0
-InTable t k = k * 8 + 8 ≤ length t
 
 -- a way from an occupied row of the table to an empty one
 pub record Open (t : List ℕ) (w : Way) : Type 0 where

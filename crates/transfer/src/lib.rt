@@ -1,5 +1,6 @@
 // Copy, Mint, Move, Mutate and Rotate on tables that keep the rules.
 pub mod caps; // caps.rt: rights, badges, guards and watermarks
+pub mod shifts; // shifts.rt: entries put into other rows
 pub mod ways; // ways.rt: from which row to which, and as what
 
 use caps::fresh;
@@ -11,10 +12,10 @@ use table::cap_at;
 use table::has_children;
 use table::stores::link;
 use table::stores::put_cap;
-use table::stores::unlink;
 use table::word;
 use ways::Plan;
 use ways::Way;
+use shifts::shift;
 use ways::planned;
 ghost use mathlib.Core.Path.{_≡_};
 ghost use mathlib.Core.Bool.{true};
@@ -25,9 +26,6 @@ ghost use Rattle.model.specs.Operations as ops;
 ghost use Rattle.model.specs.Request.{carriedOut};
 ghost use Rattle.transfer.specs.Lent.{lent, Reached, after};
 ghost use Rattle.transfer.specs.Ways as spec;
-
-// The word for "no row".
-const NONE: u32 = 4294967295;
 
 // Copy and Mint: the copy is listed straight after its source, one deeper; a copied Untyped is full.
 fn copied(t: &mut [u32], control: &mut [u32; 4], w: Way)
@@ -73,21 +71,6 @@ pub fn copy(
     }
 }
 
-// Move and Mutate: the capability keeps its place in the list.
-fn moved(t: &mut [u32], control: &mut [u32; 4], w: Way)
-    requires { ⌜ spec.Along (lent (now t) (now control)) w ⌝ }
-    ensures { λ _. ⌜ lent (now (t .exit)) (now (control .exit)) ≡ after edition32 (lent (now (t .entry)) (now (control .entry))) (spec.relocated w) ⌝ }
-{
-    let next = word(t, w.from, 5);
-    let last = word(t, w.from, 6);
-    let depth = word(t, w.from, 7);
-    link(t, w.from, next, w.to, w.cap, depth);
-    unlink(t, w.from, last, w.to.0);
-    if last == NONE {
-        control[2] = w.to.0;
-    }
-}
-
 // Move and Mutate.
 pub fn relocate(
     t: &mut [u32],
@@ -103,7 +86,7 @@ pub fn relocate(
     match plan {
         Plan::Refused(answer) => answer,
         Plan::Go(w) => {
-            moved(t, control, w);
+            shift(t, control, w.from, w.to, w.cap);
             Answer::Success { count: 0 }
         }
     }
