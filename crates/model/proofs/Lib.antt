@@ -3,6 +3,9 @@ pub mod Members
 pub mod Distinct
 pub mod State
 pub mod Order
+pub mod Tempting
 pub mod Words
 pub mod Transfer
 pub mod Removal
+pub mod Kept
+pub mod Separation

@@ -1,13 +1,11 @@
 -- Copy along a way: the test of the next row is that of children, and the words that the code stores are those of the tables after it.
-use Prim.Native.Nat.{ℕ, _+_, _*_, _≤_, _<_}
+use Prim.Native.Nat.{ℕ, _+_}
 use mathlib.Core.Path.{_≡_, refl, sym, ap, _∙_}
 use mathlib.Core.Bool.{Bool, true, false, _&&_}
 use mathlib.Core.List.{List}
-use mathlib.Core.Logic.{⊎-elim}
 use native.Mathlib.Nat.{add-comm}
-use native.Mathlib.Omega.{arith}
-use lib.ListN.{length, getD, set}
-use borrow.Author.Tests.{lt-ltb, le-ltb, eq-eqb, ne-eqb}
+use lib.ListN.{getD, set}
+use borrow.Author.Tests.{eq-eqb, ne-eqb}
 use Rattle.model.specs.declared.Answer.the-variants.{Success, RevokeFirst}
 use Rattle.model.specs.declared.Cap.{Cap}
 use Rattle.model.specs.Edition.{edition32}
@@ -19,10 +17,10 @@ use Rattle.model.specs.Tables.{Tables, word, capOf, read}
 use Rattle.model.specs.Rules.{wellFormed}
 use Rattle.model.specs.Operations.{full, fresh}
 use Rattle.model.specs.Request.{carriedOut}
-use Rattle.model.proofs.Words.WellFormed.{roomy32, formed}
+use Rattle.model.proofs.Words.WellFormed.{roomy32}
 use Rattle.model.proofs.Transfer.Outcome.{comes-refused, comes-done}
 use Rattle.model.proofs.Transfer.Copied.{write-copied}
-use Rattle.model.proofs.Transfer.Next.{next-cases, children-words}
+use Rattle.model.proofs.Transfer.Next.{children-words}
 use Rattle.table.specs.Children.{deeperNext}
 use Rattle.transfer.specs.declared.ways.Way.{Way}
 use Rattle.transfer.specs.Lent.{lent, after}
@@ -32,15 +30,7 @@ use Rattle.transfer.proofs.Bounds.{row-below}
 -- on well-formed tables the test of the next row is that of children
 children : (t : Tables) → wellFormed edition32 t ≡ true → (k : ℕ) → isEmpty (capOf (t .table) k) ≡ false → deeperNext (t .table) k ≡ hasChildren (read edition32 t .forest) k
 unfolding deeperNext
-children t e k some =
-    ⊎-elim
-    (λ none. rw (le-ltb (word (t .table) k 5 * 8 + 7) (length (t .table)) (omega (arith, few))) (sym (children-words edition32 roomy32 t e k some ∙ rw (eq-eqb (word (t .table) k 5) 4294967295 none))))
-    (λ low. rw (lt-ltb (word (t .table) k 5 * 8 + 7) (length (t .table)) (omega (arith, formed edition32 roomy32 t e .tableLong)))
-    (sym (children-words edition32 roomy32 t e k some ∙ rw (ne-eqb (word (t .table) k 5) 4294967295 (omega (arith, formed edition32 roomy32 t e .room))))))
-    (next-cases edition32 roomy32 t e k some)
-  where
-    few : length (t .table) ≤ 8 * 4294967295
-    few = omega (arith, formed edition32 roomy32 t e .tableLong, formed edition32 roomy32 t e .room)
+children t e k some = sym (children-words edition32 roomy32 t e k some)
 
 -- no copy is refused of what is typed or has no children
 pub typed : (c : Cap) (b : Bool) → (c .kind ≡ 1 → ⊥) → (isUntyped c && b) ≡ false

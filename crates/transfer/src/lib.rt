@@ -1,6 +1,7 @@
 // Copy, Mint, Move, Mutate and Rotate on tables that keep the rules.
 pub mod caps; // caps.rt: rights, badges, guards and watermarks
 pub mod shifts; // shifts.rt: entries put into other rows
+pub mod turns; // turns.rt: which rows turn, and as what
 pub mod ways; // ways.rt: from which row to which, and as what
 
 use caps::fresh;

@@ -1,0 +1,2 @@
+mod BootRows
+mod BootAnswers
