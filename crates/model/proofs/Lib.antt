@@ -5,6 +5,7 @@ pub mod State
 pub mod Order
 pub mod Tempting
 pub mod Words
+pub mod Transfer
 pub mod Removal
 pub mod Kept
 pub mod Separation
