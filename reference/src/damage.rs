@@ -264,3 +264,76 @@ pub fn unusual(tables: &Tables, state: &State, random: &mut Random) -> Option<Ta
     }
     Some(new)
 }
+
+/// Tables with right links whose rows, depths and objects have been changed at random a few times.
+pub fn scrambled(tables: &Tables, state: &State, random: &mut Random) -> Tables {
+    let mut wild = state.clone();
+    for _ in 0..1 + random.below(3) {
+        scramble(&mut wild, tables.rows(), random);
+    }
+    let mut new = tables.clone();
+    new.write(&wild);
+    new
+}
+
+/// One random change of a state.
+fn scramble(wild: &mut State, rows: usize, random: &mut Random) {
+    if wild.list.is_empty() {
+        return;
+    }
+    let position = random.below(wild.list.len());
+    let other = random.below(wild.list.len());
+    let row = wild.list[position].row;
+    let pattern = cap_at(wild, other);
+    match random.below(9) {
+        0 => {
+            let before = if position == 0 { 0 } else { wild.list[position - 1].depth + 1 };
+            wild.list[position].depth = random.below(before as usize + 1) as u32;
+        }
+        1 => wild.list.swap(position, other),
+        2 => {
+            let place = wild.list.remove(position);
+            wild.list.insert(other, place);
+        }
+        3 => {
+            wild.list.remove(position);
+            wild.caps.remove(&row);
+        }
+        4 | 5 => add_row(wild, rows, pattern, position, random),
+        6 => {
+            let object = &mut wild.caps.get_mut(&row).expect("a listed row is occupied").object;
+            let step = object.bytes() as u32;
+            object.address.0 = random.pick(&[pattern.object.address.0, object.address.0 ^ step]).unwrap_or(0);
+        }
+        7 => {
+            let object = &mut wild.caps.get_mut(&row).expect("a listed row is occupied").object;
+            object.size = random.pick(&[object.size + 1, object.size.max(1) - 1]).unwrap_or(0).min(20);
+        }
+        _ => {
+            let cap = wild.caps.get_mut(&row).expect("a listed row is occupied");
+            if cap.kind() == Kind::Untyped {
+                cap.word3 = random.below(cap.object.bytes() as usize / 16 + 1) as u32 * 16;
+            } else if matches!(cap.kind(), Kind::Endpoint | Kind::Notification) {
+                let kind = if cap.kind() == Kind::Endpoint { Kind::Notification } else { Kind::Endpoint };
+                cap.object.kind = kind;
+                cap.word4 &= 3;
+            }
+        }
+    }
+}
+
+/// A new row that names what another names, after some place in the list, mostly one that names it, too.
+fn add_row(wild: &mut State, rows: usize, pattern: Cap, position: usize, random: &mut Random) {
+    let inside = |row: u32| wild.caps.values().any(|cap| cap.object.exponent() < 20 && cap.object.holds(Row(row)));
+    let empty: Vec<u32> = (0..rows as u32).filter(|&row| !wild.occupied(Row(row)) && inside(row)).collect();
+    let row = match random.pick(&empty) {
+        Some(row) => Row(row),
+        None => return,
+    };
+    let after = place_where(wild, random, |at| cap_at(wild, at).object == pattern.object).unwrap_or(position);
+    let after = if random.chance(70) { after } else { position };
+    let deepest = wild.list[after].depth as usize + 1;
+    let depth = if random.chance(50) { deepest } else { random.below(deepest + 1) } as u32;
+    wild.list.insert(after + 1, Place { row, depth });
+    wild.caps.insert(row, pattern);
+}

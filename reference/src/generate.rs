@@ -3,7 +3,7 @@
 
 use crate::boot::greatest_r;
 use crate::console::{spaced, Console};
-use crate::damage::{broken, unusual};
+use crate::damage::{broken, scrambled, unusual};
 use crate::random::Random;
 use crate::rules::{well_formed, Rule, RULES};
 use crate::tables::{Cap, Kind, Object, Row, State, Tables, KINDS};
@@ -65,12 +65,14 @@ struct Generator<'a, W: Write> {
     random: Random,
     console: Console,
     episodes: u32,
+    filling: bool,
     out: &'a mut W,
 }
 
 /// Writes console lines with `count` requests.
 pub fn generate(seed: u64, count: u64, out: &mut impl Write) -> io::Result<()> {
-    let mut generator = Generator { random: Random(seed), console: Console::default(), episodes: 0, out };
+    let mut generator =
+        Generator { random: Random(seed), console: Console::default(), episodes: 0, filling: false, out };
     generator.write("# before any boot")?;
     generator.write("show")?;
     generator.write("ask 0 5 0 1 32")?;
@@ -134,6 +136,7 @@ impl<W: Write> Generator<'_, W> {
     /// One boot and what follows; gives the requests left.
     fn episode(&mut self, mut left: u64) -> io::Result<u64> {
         self.episodes += 1;
+        self.filling = self.random.chance(35);
         let mut m = self.random.weighted(&[(48, 10), (14, 11), (12, 12), (14, 13), (6, 14), (4, 15), (2, 16)]);
         if self.episodes % 10 == 0 {
             m = 10 + self.episodes / 10 % 7;
@@ -146,8 +149,8 @@ impl<W: Write> Generator<'_, W> {
         }
         self.write(&format!("boot {} {}", m, r))?;
         self.write("show")?;
-        if self.random.chance(20) {
-            left = self.script(left)?;
+        if self.random.chance(if m >= 13 { 60 } else { 20 }) {
+            left = self.script(m, r, left)?;
         }
         let length = 20 + self.random.below(if m <= 12 { 300 } else { 80 });
         for _ in 0..length {
@@ -160,9 +163,9 @@ impl<W: Write> Generator<'_, W> {
             }
             match self.random.below(100) {
                 0..=4 => left = left.saturating_sub(self.damaged(&state)?),
-                5 => self.rearranged(&state)?,
-                6 => self.odd_line()?,
-                7 => self.estate_or_tree(&state)?,
+                5..=9 => self.rearranged(&state)?,
+                10 => self.odd_line()?,
+                11 => self.estate_or_tree(&state)?,
                 _ => {
                     left -= 1;
                     self.request(&state)?;
@@ -180,34 +183,40 @@ impl<W: Write> Generator<'_, W> {
         !roots.iter().any(|path| is_cnode(state, path.row))
     }
 
-    /// Sequences that random requests seldom make: rings of CNodes, an Untyped held in a CNode made from it.
-    fn script(&mut self, left: u64) -> io::Result<u64> {
-        const SELF: [&str; 4] = ["8 1 4 2 0 0 0 12 2", "3 12 0 2 0 12 32", "5 0 13 32", "6 0 1 32"];
-        const RING: [&str; 6] = [
-            "8 1 4 2 0 0 0 12 2",
-            "1 0 14 32 0 13 32 7",
-            "3 12 0 2 0 13 32",
-            "3 14 1 2 0 12 32",
-            "5 0 14 32",
-            "6 0 1 32",
+    /// Sequences that random requests seldom make: rings of CNodes, an Untyped held in a CNode made from it, guards that
+    /// let two CNodes share 32 bits, a Frame and a TCB, many rows.
+    fn script(&mut self, m: u32, r: u32, left: u64) -> io::Result<u64> {
+        let largest = m - r - 4;
+        let second = largest - 1;
+        let scripts: [&[&str]; 6] = [
+            &["8 1 4 2 0 0 0 12 2", "3 12 0 2 0 12 32", "5 0 13 32", "6 0 1 32"],
+            &[
+                "8 1 4 2 0 0 0 12 2",
+                "1 0 14 32 0 13 32 7",
+                "3 12 0 2 0 13 32",
+                "3 14 1 2 0 12 32",
+                "5 0 14 32",
+                "6 0 1 32",
+            ],
+            &["8 1 4 2 0 0 0 12 1", "3 12 0 2 0 1 32", "6 12 0 2"],
+            &[
+                "8 1 4 2 0 0 0 12 2",
+                "2 0 14 32 0 12 32 7 14",
+                "2 12 0 2 0 13 32 7 14",
+                "2 12 1 2 0 12 32 7 78",
+                "8 1 2 0 0 0 0 15 1",
+                "3 12 2 2 0 15 32",
+            ],
+            &["8 LARGEST 5 0 0 0 0 12 1", "8 SECOND 1 0 0 0 0 13 1", "1 0 14 32 0 12 32 1", "1 12 15 32 0 13 32 1"],
+            &["8 LARGEST 4 8 0 0 0 12 1", "8 SECOND 2 0 0 12 32 1 200", "8 SECOND 3 0 0 12 32 201 50", "6 0 SECOND 32"],
         ];
-        const OWN: [&str; 3] = ["8 1 4 2 0 0 0 12 1", "3 12 0 2 0 1 32", "6 12 0 2"];
-        const NESTED: [&str; 6] = [
-            "8 1 4 2 0 0 0 12 2",
-            "2 0 14 32 0 12 32 7 14",
-            "2 12 0 2 0 13 32 7 14",
-            "2 12 1 2 0 12 32 7 78",
-            "8 1 2 0 0 0 0 15 1",
-            "3 12 2 2 0 15 32",
-        ];
-        let script: &[&str] = match self.random.below(4) {
-            0 => &SELF,
-            1 => &RING,
-            2 => &OWN,
-            _ => &NESTED,
+        let script = match m {
+            13..=16 if self.random.chance(50) => scripts[4 + self.random.below(2)],
+            _ => scripts[self.random.below(4)],
         };
-        let last = if self.random.chance(50) { script.len() } else { script.len() - 1 };
+        let last = if self.random.chance(30) { script.len() } else { script.len() - 1 };
         for message in &script[..last] {
+            let message = message.replace("LARGEST", &largest.to_string()).replace("SECOND", &second.to_string());
             self.write(&format!("ask 0 {}", message))?;
             self.write("show")?;
         }
@@ -230,7 +239,7 @@ impl<W: Write> Generator<'_, W> {
     fn damaged(&mut self, state: &State) -> io::Result<u64> {
         let whole = self.console.tables.clone();
         let mut rule = RULES[self.random.below(RULES.len())];
-        if state.caps.values().any(|cap| matches!(cap.kind(), Kind::Frame | Kind::Tcb)) && self.random.chance(20) {
+        if state.caps.values().any(|cap| matches!(cap.kind(), Kind::Frame | Kind::Tcb)) && self.random.chance(35) {
             rule = self.random.pick(&[Rule::FrameRights, Rule::ZeroWord3]).unwrap_or(rule);
         }
         let new = match broken(rule, &whole, state, &mut self.random) {
@@ -255,13 +264,18 @@ impl<W: Write> Generator<'_, W> {
         Ok(asks as u64)
     }
 
-    /// Tables that are well-formed though no request makes them.
+    /// Tables that no request makes, well-formed or not; they stay if they are.
     fn rearranged(&mut self, state: &State) -> io::Result<()> {
         let whole = self.console.tables.clone();
-        if let Some(new) = unusual(&whole, state, &mut self.random) {
+        let new = if self.random.chance(75) {
+            Some(scrambled(&whole, state, &mut self.random))
+        } else {
+            unusual(&whole, state, &mut self.random)
+        };
+        if let Some(new) = new {
             self.write_tables(&new)?;
+            self.write(&format!("ask {}", new.control[2]))?;
             if well_formed(&new).is_err() {
-                self.write("ask 0 5 0 15 32")?;
                 self.write_tables(&whole)?;
             }
         }
@@ -380,7 +394,12 @@ impl<W: Write> Generator<'_, W> {
     /// A line with a request.
     fn ask(&mut self, state: &State) -> String {
         let (caller, roots) = self.caller(state);
-        let operation = self.random.weighted(&[(14, 1), (16, 2), (12, 3), (10, 4), (9, 5), (8, 6), (10, 7), (30, 8)]);
+        let removals = if self.filling { 2 } else { 8 };
+        let transfers = [(14, 1), (16, 2), (12, 3), (10, 4), (10, 7)];
+        let operation = match self.random.weighted(&[(62, 0), (removals + 1, 5), (removals, 6), (30, 8)]) {
+            0 => self.random.weighted(&transfers),
+            other => other,
+        };
         let mut message = match operation {
             8 => self.retype(state, &roots),
             7 => self.rotate(state, &roots),
@@ -493,7 +512,10 @@ impl<W: Write> Generator<'_, W> {
         let kind = self.random.weighted(&[(20, 0), (tcb, 1), (16, 2), (12, 3), (36, 4), (frame, 5)]);
         let size = match KINDS[kind] {
             Kind::Untyped => 4 + self.random.below(bytes.max(5) - 3) as u32,
-            Kind::CNode => 1 + self.random.below(bytes.saturating_sub(5).clamp(1, 5)) as u32,
+            Kind::CNode => {
+                let most = if self.filling { 9 } else { 5 };
+                1 + self.random.below(bytes.saturating_sub(5).clamp(1, most)) as u32
+            }
             _ if self.random.chance(90) => 0,
             _ => self.random.interesting(),
         };
@@ -521,7 +543,7 @@ impl<W: Write> Generator<'_, W> {
         let empty: Vec<u32> = rows.clone().filter(|&row| !state.occupied(Row(row))).map(|row| row - first).collect();
         let offset = self.random.pick(&empty).unwrap_or(0);
         let run = (offset..rows.end - first).take_while(|slot| !state.occupied(Row(first + slot))).count();
-        let most = if self.random.chance(85) { run.min(3) } else { run };
+        let most = if self.random.chance(if self.filling { 50 } else { 85 }) { run.min(3) } else { run };
         let window = 1 + self.random.below(most.max(1)) as u32;
         (offset, if self.random.chance(3) { window + run as u32 } else { window })
     }

@@ -1,4 +1,5 @@
 mod Shift
 mod Levels
 pub mod WellFormed
-pub mod Found
+pub mod InTable
+mod Finding

@@ -1,7 +1,9 @@
 // The lookup of a capability address in a lent slot table.
+use model::Answer;
 use model::Cap;
 use model::Failure;
 use model::Looked;
+use model::Place;
 use model::Row;
 use table::cap_at;
 use table::row_of;
@@ -13,6 +15,9 @@ ghost use Rattle.model.specs.Edition.{edition32};
 ghost use Rattle.model.specs.Cap.{isCNode};
 ghost use Rattle.model.specs.Tables as tables;
 ghost use Rattle.model.specs.Lookup as spec;
+ghost use Rattle.model.specs.Operations.{slotOf};
+ghost use Rattle.model.specs.Request.{orFault};
+ghost use Rattle.lookup.specs.Finds.{Finds};
 ghost use Rattle.lookup.specs.Ready.{Ready, Usable};
 
 const CNODE: u32 = 5;
@@ -88,4 +93,45 @@ pub fn lookup_from(t: &[u32], row: Row, address: u32, depth: u32) -> Looked
     ensures { λ r. ⌜ r ≡ spec.lookup edition32 (tables.capOf (now (t .entry))) (tables.capOf (now (t .entry)) (row .0)) address depth ⌝ }
 {
     lookup(t, cap_at(t, row), address, depth)
+}
+
+// What a place or a message word names: a row, or what the request is told.
+pub enum Found {
+    At(Row),
+    Refused(Answer),
+}
+
+// The row that a place names.
+pub fn find(t: &[u32], p: Place) -> Found
+    requires { ⌜ Ready (now t) ⌝ ∗ ⌜ (isCNode (p .root) ≡ true → Usable (now t) (p .root)) ⌝ }
+    ensures { λ r. ⌜ Finds (now (t .entry)) (slotOf edition32 (p .source) (spec.lookup edition32 (tables.capOf (now (t .entry))) (p .root) (p .index) (p .depth))) r ⌝ }
+{
+    let looked = lookup(t, p.root, p.index, p.depth);
+    match looked {
+        Looked::Slot(row) => Found::At(row),
+        Looked::Failed(failure) => Found::Refused(Answer::FailedLookup {
+            source: p.source,
+            failure,
+        }),
+        Looked::DepthOutOfRange => Found::Refused(Answer::RangeError {
+            least: 1,
+            greatest: 32,
+        }),
+    }
+}
+
+// The row that the address in message word `at` names, from a root and at full depth.
+pub fn named(t: &[u32], root: Cap, address: u32, at: u32) -> Found
+    requires { ⌜ Ready (now t) ⌝ ∗ ⌜ (isCNode root ≡ true → Usable (now t) root) ⌝ }
+    ensures { λ r. ⌜ Finds (now (t .entry)) (orFault at (spec.lookup edition32 (tables.capOf (now (t .entry))) root address 32)) r ⌝ }
+{
+    let looked = lookup(t, root, address, 32);
+    match looked {
+        Looked::Slot(row) => Found::At(row),
+        Looked::Failed(failure) => Found::Refused(Answer::CapFault { word: at, failure }),
+        Looked::DepthOutOfRange => Found::Refused(Answer::CapFault {
+            word: at,
+            failure: Failure::InvalidRoot,
+        }),
+    }
 }

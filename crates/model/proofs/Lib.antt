@@ -4,3 +4,4 @@ pub mod Distinct
 pub mod State
 pub mod Order
 pub mod Words
+pub mod Removal

@@ -11,3 +11,6 @@ pub mod Linking
 pub mod Runs
 pub mod Edited
 pub mod Grafted
+pub mod Moved
+pub mod Removed
+pub mod Descendants
