@@ -1,13 +1,31 @@
 // Retype on checked tables.
+use lookup::Found;
+use lookup::find;
 use model::Address;
+use model::Answer;
 use model::Cap;
+use model::Failure;
+use model::Place;
+use model::Retyping;
+use model::Row;
 use model::exponent;
+use table::cap_at;
+use table::row_of;
+use table::word;
 ghost use mathlib.Core.Path.{_≡_};
+ghost use mathlib.Core.Bool.{true};
 ghost use Prim.Native.Nat.{_+_, _*_, _^_, _≤_, _<_};
+ghost use lib.ListN.{length};
 ghost use Rattle.model.specs.Edition.{edition32};
 ghost use Rattle.model.specs.Cap as cap;
 ghost use Rattle.model.specs.Operations as spec;
-ghost use Rattle.retype.specs.Window.{Known};
+ghost use Rattle.model.specs.Tables as tables;
+ghost use Rattle.lookup.specs.Finds.{ofFound};
+ghost use Rattle.lookup.specs.Ready.{Ready, Usable};
+ghost use Rattle.retype.specs.Answers.{ofJudged, ofTaker};
+ghost use Rattle.retype.specs.Window as tests;
+
+const CNODE: u32 = 5;
 
 // n rounded up to a multiple of 2^e.
 pub fn align_up(n: u32, e: u64) -> u64
@@ -48,7 +66,7 @@ pub fn full_rights(object: u32) -> u32
 
 // A new object's capability: full rights, badge 0, guard size 0, watermark 0.
 pub fn new_cap(object: u32, size: u32, address: Address) -> Cap
-    requires { ⌜ Known object size ⌝ }
+    requires { ⌜ tests.Known object size ⌝ }
     ensures { λ r. ⌜ r ≡ spec.newCap edition32 object size (address .0) ⌝ }
 {
     let mut shown = size;
@@ -62,4 +80,104 @@ pub fn new_cap(object: u32, size: u32, address: Address) -> Cap
         third: 0,
         fourth: full_rights(object),
     }
+}
+
+// What the object type and size are told.
+pub enum Judged {
+    Passed,
+    Barred(Answer),
+}
+
+// The tests of the object type and size.
+pub fn sized(object: u32, size: u32) -> Judged
+    ensures { λ r. ⌜ ofJudged r ≡ tests.sized edition32 object size ⌝ }
+{
+    if 5 < object {
+        return Judged::Barred(Answer::InvalidArgument { argument: 0 });
+    }
+    if 30 < size {
+        return Judged::Barred(Answer::RangeError {
+            least: 0,
+            greatest: 30,
+        });
+    }
+    if size_barred(object, size) {
+        return Judged::Barred(Answer::InvalidArgument { argument: 1 });
+    }
+    Judged::Passed
+}
+
+// What is to take the new capabilities, or what the request is told.
+pub enum Taker {
+    Is(Cap),
+    Refused(Answer),
+}
+
+// What a place names, at depth 0 its root itself.
+pub fn node(t: &[u32], p: Place) -> Taker
+    requires { ⌜ Ready (now t) ⌝ ∗ ⌜ (cap.isCNode (p .root) ≡ true → Usable (now t) (p .root)) ⌝ }
+    ensures { λ r. ⌜ ofTaker r ≡ tests.nodeBy edition32 (tables.capOf (now (t .entry))) p ⌝ }
+{
+    if p.depth == 0 {
+        let root = p.root;
+        return Taker::Is(root);
+    }
+    let found = find(t, p);
+    match found {
+        Found::At(row) => Taker::Is(cap_at(t, row)),
+        Found::Refused(a) => Taker::Refused(a),
+    }
+}
+
+// One of the n rows from the first is occupied.
+pub fn any_taken(t: &[u32], first: Row, n: u32) -> bool
+    requires { ⌜ Ready (now t) ⌝ ∗ ⌜ (first .0 + n) * 8 ≤ length (now t) ⌝ }
+    ensures { λ r. ⌜ r ≡ tests.takenBy (tables.capOf (now (t .entry))) (first .0) n ⌝ }
+{
+    let mut k = first.0;
+    let mut left = n;
+    while 0 < left {
+        if word(t, Row(k), 0) != 0 {
+            return true;
+        }
+        k += 1;
+        left -= 1;
+    }
+    false
+}
+
+// The first slot of the window in a node.
+pub fn window(n: Cap, q: Retyping) -> Found
+    requires { ⌜ (cap.isCNode n ≡ true → cap.firstRow edition32 n + cap.slots n ≤ 4096) ⌝ }
+    ensures { λ r. ⌜ ofFound r ≡ tests.windowIn edition32 n q ⌝ }
+{
+    if n.kind != CNODE {
+        let bits = q.into.depth;
+        return Found::Refused(Answer::FailedLookup {
+            source: false,
+            failure: Failure::Missing { bits },
+        });
+    }
+    let slots = 1u32 << n.size;
+    if slots <= q.offset {
+        return Found::Refused(Answer::RangeError {
+            least: 0,
+            greatest: slots - 1,
+        });
+    }
+    if q.window == 0 || 256 < q.window {
+        return Found::Refused(Answer::RangeError {
+            least: 1,
+            greatest: 256,
+        });
+    }
+    let room = slots - q.offset;
+    if room < q.window {
+        return Found::Refused(Answer::RangeError {
+            least: 1,
+            greatest: room,
+        });
+    }
+    let first = row_of(n.address);
+    Found::At(Row(first.0 + q.offset))
 }
