@@ -1,4 +1,3 @@
-mod Shift
 mod Levels
 pub mod WellFormed
 pub mod InTable
