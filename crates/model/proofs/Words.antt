@@ -14,3 +14,5 @@ pub mod Grafted
 pub mod Moved
 pub mod Removed
 pub mod Descendants
+pub mod Links
+pub mod Swapped
