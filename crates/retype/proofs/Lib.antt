@@ -1,3 +1,4 @@
 pub mod Alignment
 pub mod Sizes
 pub mod Tests
+pub mod Windows

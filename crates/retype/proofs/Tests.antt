@@ -58,7 +58,7 @@ taken-here caps k (suc n) h e = rw e
 pub taken-next : (caps : ℕ → Cap) (k n : ℕ) → 0 < n → isEmpty (caps k) ≡ true → takenBy caps (k + 1) (n - 1) ≡ takenBy caps k n
 unfolding takenBy
 taken-next caps k zero h e = absurd (omega arith)
-taken-next caps k (suc n) h e = rw e (ap (takenBy caps (k + 1)) (omega arith))
+taken-next caps k (suc n) h e = let one : suc n - 1 ≡ n = omega arith in rw (e, one)
 
 -- a row is empty where its first word is 0
 pub empty-word : (t : List ℕ) (k w : ℕ) → w ≡ word t k 0 → w ≡ 0 → isEmpty (capOf t k) ≡ true

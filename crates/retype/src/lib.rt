@@ -11,6 +11,8 @@ use model::Row;
 use model::exponent;
 use table::cap_at;
 use table::row_of;
+use table::size::pow2;
+use table::size::slots_of;
 use table::word;
 ghost use mathlib.Core.Path.{_≡_};
 ghost use mathlib.Core.Bool.{true};
@@ -28,11 +30,11 @@ ghost use Rattle.retype.specs.Window as tests;
 const CNODE: u32 = 5;
 
 // n rounded up to a multiple of 2^e.
-pub fn align_up(n: u32, e: u64) -> u64
+pub fn align_up(n: u32, e: u32) -> u64
     requires { ⌜ e ≤ 34 ⌝ }
     ensures { λ r. ⌜ r ≡ spec.alignUp n e ⌝ }
 {
-    let above = n as u64 + ((1u64 << e) - 1);
+    let above = n as u64 + (pow2(e) - 1);
     above >> e << e
 }
 
@@ -158,11 +160,12 @@ pub fn window(n: Cap, q: Retyping) -> Found
             failure: Failure::Missing { bits },
         });
     }
-    let slots = 1u32 << n.size;
+    let slots = slots_of(n) as u32;
     if slots <= q.offset {
+        let last = slots - 1;
         return Found::Refused(Answer::RangeError {
             least: 0,
-            greatest: slots - 1,
+            greatest: last,
         });
     }
     if q.window == 0 || 256 < q.window {
@@ -179,5 +182,6 @@ pub fn window(n: Cap, q: Retyping) -> Found
         });
     }
     let first = row_of(n.address);
-    Found::At(Row(first.0 + q.offset))
+    let row = first.0 + q.offset;
+    Found::At(Row(row))
 }
