@@ -2,3 +2,5 @@ pub mod Alignment
 pub mod Sizes
 pub mod Tests
 pub mod Windows
+pub mod Passed
+pub mod Slots

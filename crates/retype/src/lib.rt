@@ -185,3 +185,37 @@ pub fn window(n: Cap, q: Retyping) -> Found
     let row = first.0 + q.offset;
     Found::At(Row(row))
 }
+
+// The first slot of the window in a node, if all its slots are empty.
+pub fn vacant_window(t: &[u32], n: Cap, q: Retyping) -> Found
+    requires { ⌜ Ready (now t) ⌝ ∗ ⌜ (cap.isCNode n ≡ true → Usable (now t) n) ⌝ }
+    ensures { λ r. ⌜ ofFound r ≡ tests.vacantIn edition32 (tables.capOf (now (t .entry))) n q ⌝ }
+{
+    let found = window(n, q);
+    match found {
+        Found::Refused(a) => Found::Refused(a),
+        Found::At(first) => {
+            if any_taken(t, first, q.window) {
+                return Found::Refused(Answer::DeleteFirst);
+            }
+            Found::At(first)
+        }
+    }
+}
+
+// All tests but that of the memory, and the first slot of the window.
+pub fn first_slot(t: &[u32], q: Retyping) -> Found
+    requires { ⌜ Ready (now t) ⌝ ∗ ⌜ (cap.isCNode (q .into .root) ≡ true → Usable (now t) (q .into .root)) ⌝ }
+    ensures { λ r. ⌜ ofFound r ≡ tests.firstSlot edition32 (tables.capOf (now (t .entry))) q ⌝ }
+{
+    let judged = sized(q.object, q.size);
+    if let Judged::Barred(a) = judged {
+        return Found::Refused(a);
+    }
+    let into = q.into;
+    let taker = node(t, into);
+    match taker {
+        Taker::Refused(a) => Found::Refused(a),
+        Taker::Is(n) => vacant_window(t, n, q),
+    }
+}
