@@ -4,3 +4,4 @@ pub mod Tests
 pub mod Windows
 pub mod Passed
 pub mod Slots
+pub mod Run

@@ -1,2 +1,3 @@
 pub mod Window
 pub mod Answers
+pub mod Laid

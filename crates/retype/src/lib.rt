@@ -13,6 +13,7 @@ use table::cap_at;
 use table::row_of;
 use table::size::pow2;
 use table::size::slots_of;
+use table::stores::link;
 use table::word;
 ghost use mathlib.Core.Path.{_≡_};
 ghost use mathlib.Core.Bool.{true};
@@ -21,10 +22,12 @@ ghost use lib.ListN.{length};
 ghost use Rattle.model.specs.Edition.{edition32};
 ghost use Rattle.model.specs.Cap as cap;
 ghost use Rattle.model.specs.Operations as spec;
+ghost use Rattle.model.specs.Stores.{linkedRun};
 ghost use Rattle.model.specs.Tables as tables;
 ghost use Rattle.lookup.specs.Finds.{ofFound};
 ghost use Rattle.lookup.specs.Ready.{Ready, Usable};
 ghost use Rattle.retype.specs.Answers.{ofJudged, ofTaker};
+ghost use Rattle.retype.specs.Laid.{newRows, Room};
 ghost use Rattle.retype.specs.Window as tests;
 
 const CNODE: u32 = 5;
@@ -217,5 +220,33 @@ pub fn first_slot(t: &[u32], q: Retyping) -> Found
     match taker {
         Taker::Refused(a) => Found::Refused(a),
         Taker::Is(n) => vacant_window(t, n, q),
+    }
+}
+
+// The window's new capabilities, in rows from `first`, for objects in a row from `address`, listed after one row and before `next`.
+fn link_new(
+    t: &mut [u32],
+    after: Row,
+    next: u32,
+    depth: u32,
+    q: Retyping,
+    first: Row,
+    address: u32,
+)
+    requires { ⌜ Room (now t) (after .0) q (first .0) address ⌝ }
+    ensures { λ _. ⌜ now (t .exit) ≡ linkedRun (now (t .entry)) (after .0) next (newRows q depth (first .0) address (q .window)) ⌝ }
+{
+    let unit = pow2(exponent(q.object, q.size) as u32);
+    let mut last = after.0;
+    let mut k = first.0;
+    let mut at = address as u64;
+    let mut left = q.window;
+    while 0 < left {
+        let c = new_cap(q.object, q.size, Address(at as u32));
+        link(t, Row(last), next, Row(k), c, depth);
+        last = k;
+        k += 1;
+        at += unit;
+        left -= 1;
     }
 }
