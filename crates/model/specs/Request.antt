@@ -27,13 +27,13 @@ use Rattle.model.specs.Operations.{Done, copy, move, rotate, delete, rev
 
 -- ---- the numbers of an answer
 
-unfoldable pub ofFailure : Failure → List ℕ
+abbrev pub ofFailure : Failure → List ℕ
 ofFailure InvalidRoot = 1 ∷ 0 ∷ 0 ∷ 0 ∷ []
 ofFailure (Missing bits) = 2 ∷ bits ∷ 0 ∷ 0 ∷ []
 ofFailure (DepthMismatch bits resolved) = 3 ∷ bits ∷ resolved ∷ 0 ∷ []
 ofFailure (GuardMismatch bits guard size) = 4 ∷ bits ∷ guard ∷ size ∷ []
 
-unfoldable pub sixWords : Answer → List ℕ
+abbrev pub sixWords : Answer → List ℕ
 sixWords (Success count) = 0 ∷ count ∷ 0 ∷ 0 ∷ 0 ∷ 0 ∷ []
 sixWords (InvalidArgument argument) = 1 ∷ argument ∷ 0 ∷ 0 ∷ 0 ∷ 0 ∷ []
 sixWords InvalidCapability = 2 ∷ 0 ∷ 0 ∷ 0 ∷ 0 ∷ 0 ∷ []
@@ -104,7 +104,7 @@ operationOf n =
     Unknown)))))))
 
 -- Retype is Untyped's, the rest CNode's
-unfoldable pub invokes : Cap → Operation → Bool
+abbrev pub invokes : Cap → Operation → Bool
 invokes c Copy = isCNode c
 invokes c Mint = isCNode c
 invokes c Move = isCNode c
@@ -116,7 +116,7 @@ invokes c Retype = isUntyped c
 invokes c Unknown = false
 
 -- the words of a message up to the operation's last
-unfoldable pub wordsOf : Operation → ℕ
+abbrev pub wordsOf : Operation → ℕ
 wordsOf Copy = 8
 wordsOf Mint = 9
 wordsOf Move = 7

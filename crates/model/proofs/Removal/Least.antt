@@ -93,7 +93,7 @@ module _ (E : Edition) (es : List Entry) where
         (or-cases (member (e .row) set) _ t (s (e .row)) (λ u.
         let (n, mn, b) = any-some (λ n. houses E (n .cap) (e .row) && lost es set (n .cap)) es u in
         closed n e mn m (and-left (houses E (n .cap) (e .row)) _ b)
-          (λ d md same. s (d .row) (lost-names set n (and-right (houses E (n .cap) (e .row)) _ b) d md same))))
+        (λ d md same. s (d .row) (lost-names set n (and-right (houses E (n .cap) (e .row)) _ b) d md same))))
 
     repeat-inside : (S : ℕ → Bool) → Closed E es S → (n : ℕ) (set : List ℕ) → Inside set S → Inside (repeat n (grow E es) set) S
     unfolding repeat

@@ -15,8 +15,8 @@ use Rattle.model.proofs.Members.{Has, has-keep, keep-same, keep-length,
 
 -- `next set` lists the members x of xs with P set x, by their numbers r x; a member whose number is in the set is one of them
 module _ {A : Type 0} (r : A → ℕ) (P : List ℕ → A → Bool) (xs : List A) (next : List ℕ → List ℕ)
-  (is : (set : List ℕ) → next set ≡ map r (keep (P set) xs))
-  (own : (set : List ℕ) (x : A) → member (r x) set ≡ true → P set x ≡ true) where
+    (is : (set : List ℕ) → next set ≡ map r (keep (P set) xs))
+    (own : (set : List ℕ) (x : A) → member (r x) set ≡ true → P set x ≡ true) where
   more : (set : List ℕ) (x : A) → Has x xs → P set x ≡ true → P (next set) x ≡ true
   more set x m t = own (next set) x (rw (is set) (has-member (map-has r (has-keep (P set) m t))))
 
@@ -48,8 +48,8 @@ module _ {A : Type 0} (r : A → ℕ) (P : List ℕ → A → Bool) (xs : List A
       go ih =
           either (leb (length (next (next set))) (length (next set)))
           (λ t. let e : next (next set) ≡ next set = still set (leb-true (length (next (next set))) (length (next set)) t) in
-                let q : repeat n next (next (next set)) ≡ next set = ap (repeat n next) e ∙ repeat-fix n (next set) e in
-                ap next q ∙ e ∙ sym q)
+          let q : repeat n next (next (next set)) ≡ next set = ap (repeat n next) e ∙ repeat-fix n (next set) e in
+          ap next q ∙ e ∙ sym q)
           (λ f. let b : length (next set) < length (next (next set)) = leb-false (length (next (next set))) (length (next set)) f in ih (omega arith))
 
   -- after one round more than there are members
