@@ -6,3 +6,4 @@ pub mod Order
 pub mod Words
 pub mod Removal
 pub mod Transfer
+pub mod Retype
