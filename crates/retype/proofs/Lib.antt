@@ -5,3 +5,4 @@ pub mod Windows
 pub mod Passed
 pub mod Slots
 pub mod Run
+pub mod Making

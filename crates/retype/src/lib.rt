@@ -14,6 +14,7 @@ use table::row_of;
 use table::size::pow2;
 use table::size::slots_of;
 use table::stores::link;
+use table::stores::put;
 use table::word;
 ghost use mathlib.Core.Path.{_≡_};
 ghost use mathlib.Core.Bool.{true};
@@ -27,7 +28,7 @@ ghost use Rattle.model.specs.Tables as tables;
 ghost use Rattle.lookup.specs.Finds.{ofFound};
 ghost use Rattle.lookup.specs.Ready.{Ready, Usable};
 ghost use Rattle.retype.specs.Answers.{ofJudged, ofTaker};
-ghost use Rattle.retype.specs.Laid.{newRows, Room};
+ghost use Rattle.retype.specs.Laid.{newRows, Room, laidOut, Layable};
 ghost use Rattle.retype.specs.Window as tests;
 
 const CNODE: u32 = 5;
@@ -249,4 +250,26 @@ fn link_new(
         at += unit;
         left -= 1;
     }
+}
+
+// The window's objects made from byte `at` of the Untyped in a row: its watermark at their end, their capabilities straight after it.
+fn lay_out(
+    t: &mut [u32],
+    control: &mut [u32; 4],
+    row: Row,
+    q: Retyping,
+    first: Row,
+    at: u32,
+)
+    requires { ⌜ Layable (record { table = now t; control = now control }) (row .0) (first .0) at q ⌝ }
+    ensures { λ _. ⌜ record { table = now (t .exit); control = now (control .exit) } ≡ laidOut (record { table = now (t .entry); control = now (control .entry) }) (row .0) (first .0) at q ⌝ }
+{
+    let address = word(t, row, 1) + at;
+    let next = word(t, row, 5);
+    let depth = word(t, row, 7) + 1;
+    let e = exponent(q.object, q.size) as u32;
+    let end = at as u64 + ((q.window as u64) << e);
+    put(t, row, 3, end as u32);
+    link_new(t, row, next, depth, q, first, address);
+    control[3] = q.window + control[3];
 }
