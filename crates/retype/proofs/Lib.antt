@@ -6,3 +6,4 @@ pub mod Passed
 pub mod Slots
 pub mod Run
 pub mod Making
+pub mod Bytes
