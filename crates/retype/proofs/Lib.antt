@@ -7,3 +7,5 @@ pub mod Slots
 pub mod Run
 pub mod Making
 pub mod Bytes
+pub mod Untyped
+pub mod Allotment

@@ -23,7 +23,7 @@ use Rattle.retype.specs.Window.{Known, sized, nodeBy, windowIn, takenBy,
 never : {A : Type 0} (a : Answer) (x : A) → refused a ≡ passed x → ⊥
 never a x e = let z : _≡_ {A = ℕ} 0 1 = cc in omega arith
 
-same : (j k : ℕ) → passed j ≡ passed k → j ≡ k
+pub same : (j k : ℕ) → passed j ≡ passed k → j ≡ k
 same j k e = cc
 
 -- a test that passed, and what came after it

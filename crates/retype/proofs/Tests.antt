@@ -25,6 +25,18 @@ pub passes : {A : Type 0} (a : Answer) (b : Bool) (rest : Check A) → b ≡ fal
 unfolding refuse _>>_
 passes a b rest h = rw h
 
+-- ---- tests in a row
+
+pub then-bind : {A B C : Type 0} (c : Check A) (d : Check B) (g : B → Check C) → ((c >> d) >>= g) ≡ (c >> (d >>= g))
+unfolding _>>_ _>>=_
+then-bind (passed a) d g = refl
+then-bind (refused r) d g = refl
+
+pub bind-bind : {A B C : Type 0} (c : Check A) (f : A → Check B) (g : B → Check C) → ((c >>= f) >>= g) ≡ (c >>= λ a. f a >>= g)
+unfolding _>>=_
+bind-bind (passed a) f g = refl
+bind-bind (refused r) f g = refl
+
 -- ---- the node
 
 module _ (E : Edition) (caps : ℕ → Cap) (p : Place) where

@@ -12,7 +12,8 @@ use Rattle.model.specs.Cap.{isUntyped, bytes, exponent}
 use Rattle.model.specs.Check.{Check, passed, _>>_, refuse}
 use Rattle.model.specs.Rules.{wellFormed}
 use Rattle.model.specs.Tables.{Tables, capOf}
-use Rattle.model.specs.Operations.{alignUp}
+use Rattle.model.specs.Tree.{Forest, capAt}
+use Rattle.model.specs.Operations.{Done, alignUp, start, allot}
 use Rattle.retype.specs.Window.{Known, takenBy}
 
 -- the byte of the Untyped u at which the window's objects begin, if the bytes from `from` on are enough
@@ -37,3 +38,7 @@ pub record Vacant (t : Tables) (k : ℕ) (q : Retyping) (first : ℕ) : Type 0 w
   pub some : 1 ≤ q .window
   pub rows : (first + q .window) * 8 ≤ length (t .table)
   pub free : takenBy (capOf (t .table)) first (q .window) ≡ false
+
+-- the memory of the Untyped in row k for the window from `first` on
+abbrev pub allotting : (k first : ℕ) → Retyping → Forest → Check Done
+allotting k first q f = allot edition32 k (capAt f k) (start f k (capAt f k)) q first

@@ -25,12 +25,13 @@ ghost use lib.ListN.{length};
 ghost use Rattle.model.specs.Edition.{edition32};
 ghost use Rattle.model.specs.Cap as cap;
 ghost use Rattle.model.specs.Operations as spec;
+ghost use Rattle.model.specs.Request.{carriedOut};
 ghost use Rattle.model.specs.Stores.{linkedRun};
 ghost use Rattle.model.specs.Tables as tables;
 ghost use Rattle.table.specs.Children.{deeperNext};
 ghost use Rattle.lookup.specs.Finds.{ofFound};
 ghost use Rattle.lookup.specs.Ready.{Ready, Usable};
-ghost use Rattle.retype.specs.Allotting.{memoryFor, Bounded, Vacant};
+ghost use Rattle.retype.specs.Allotting.{memoryFor, Bounded, Vacant, allotting};
 ghost use Rattle.retype.specs.Answers.{ofJudged, ofTaker, ofMemory};
 ghost use Rattle.retype.specs.Laid.{newRows, Room, laidOut, Layable};
 ghost use Rattle.retype.specs.Window as tests;
@@ -309,4 +310,21 @@ pub fn memory_for(u: Cap, from: u32, q: Retyping) -> Memory
     }
     let at = align_up(from, e) as u32;
     Memory::From(at)
+}
+
+// The memory of the Untyped in a row for the window of empty slots from the first on.
+pub fn allot(t: &mut [u32], control: &mut [u32; 4], row: Row, q: Retyping, first: Row) -> Answer
+    requires { ⌜ Vacant (record { table = now t; control = now control }) (row .0) q (first .0) ⌝ }
+    ensures { λ r. ⌜ record { answer = r; tables = record { table = now (t .exit); control = now (control .exit) } } ≡ carriedOut edition32 (record { table = now (t .entry); control = now (control .entry) }) (allotting (row .0) (first .0) q) ⌝ }
+{
+    let u = cap_at(t, row);
+    let from = start(t, row, u);
+    let memory = memory_for(u, from, q);
+    match memory {
+        Memory::Refused(a) => a,
+        Memory::From(at) => {
+            lay_out(t, control, row, q, first, at);
+            Answer::Success { count: q.window }
+        }
+    }
 }
