@@ -29,18 +29,13 @@ use Rattle.retype.specs.Window.{takenBy}
 use Rattle.retype.proofs.Bytes.{bytes-small, at-small, objects-most}
 use Rattle.retype.proofs.Passed.{through, same}
 use Rattle.retype.proofs.Tests.{then-bind}
+use Rattle.retype.proofs.Whole.{taken-by}
 use Rattle.retype.proofs.Untyped.{Small, small, untyped-filled}
 
 -- the memory's test, then the deed
 allot-by : (E : Edition) (k : ℕ) (u : Cap) (from : ℕ) (q : Retyping) (first : ℕ) → allot E k u from q first ≡ (memoryFor E u from q >>= λ at. passed (allotted E k u at q first))
 unfolding allot memoryFor _>>=_
 allot-by E k u from q first = sym (then-bind (refuse (NotEnoughMemory (bytes E u - from)) _) (passed (alignUp from (exponent E (q .object) (q .size)))) (λ at. passed (allotted E k u at q first)))
-
--- a row is taken in the tree where it is in the table
-taken-by : (f : Forest) (k n : ℕ) → anyTaken f k n ≡ takenBy (capAt f) k n
-unfolding anyTaken takenBy
-taken-by f k zero = refl
-taken-by f k (suc n) = ap (λ (b : Bool). not (isEmpty (capAt f k)) || b) (taken-by f (k + 1) n)
 
 module _ (t : Tables) (k : ℕ) (q : Retyping) (first : ℕ) (v : Vacant t k q first) where
   forest : Forest

@@ -9,3 +9,5 @@ pub mod Making
 pub mod Bytes
 pub mod Untyped
 pub mod Allotment
+pub mod Whole
+pub mod Served

@@ -32,6 +32,16 @@ unfolding refuse _>>_
 through a true rest x e = absurd (never a x e)
 through a false rest x e = (refl, e)
 
+pub bound : {A B : Type 0} (c : Check A) (f : A → Check B) (x : B) → (c >>= f) ≡ passed x → (a : A) × (c ≡ passed a) × (f a ≡ passed x)
+unfolding _>>=_
+bound (passed a) f x e = (a, refl, e)
+bound (refused r) f x e = absurd (never r x e)
+
+pub then-passed : {A B : Type 0} (c : Check A) (d : Check B) (x : B) → (c >> d) ≡ passed x → (a : A) × (c ≡ passed a) × (d ≡ passed x)
+unfolding _>>_
+then-passed (passed a) d x e = (a, refl, e)
+then-passed (refused r) d x e = absurd (never r x e)
+
 -- the window lies in the slots of the node n, from row k on
 pub record Placed (n : Cap) (q : Retyping) (k : ℕ) : Type 0 where
   pub node : isCNode n ≡ true

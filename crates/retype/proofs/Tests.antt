@@ -37,6 +37,15 @@ unfolding _>>=_
 bind-bind (passed a) f g = refl
 bind-bind (refused r) f g = refl
 
+pub then-then : {A B C : Type 0} (c : Check A) (d : Check B) (e : Check C) → ((c >> d) >> e) ≡ (c >> (d >> e))
+unfolding _>>_
+then-then (passed a) d e = refl
+then-then (refused r) d e = refl
+
+pub passed-bind : {A B : Type 0} (a : A) (f : A → Check B) → (passed a >>= f) ≡ f a
+unfolding _>>=_
+passed-bind a f = refl
+
 -- ---- the node
 
 module _ (E : Edition) (caps : ℕ → Cap) (p : Place) where

@@ -31,7 +31,7 @@ ghost use Rattle.model.specs.Tables as tables;
 ghost use Rattle.table.specs.Children.{deeperNext};
 ghost use Rattle.lookup.specs.Finds.{ofFound};
 ghost use Rattle.lookup.specs.Ready.{Ready, Usable};
-ghost use Rattle.retype.specs.Allotting.{memoryFor, Bounded, Vacant, allotting};
+ghost use Rattle.retype.specs.Allotting.{memoryFor, Bounded, Vacant, Retypable, allotting};
 ghost use Rattle.retype.specs.Answers.{ofJudged, ofTaker, ofMemory};
 ghost use Rattle.retype.specs.Laid.{newRows, Room, laidOut, Layable};
 ghost use Rattle.retype.specs.Window as tests;
@@ -326,5 +326,17 @@ pub fn allot(t: &mut [u32], control: &mut [u32; 4], row: Row, q: Retyping, first
             lay_out(t, control, row, q, first, at);
             Answer::Success { count: q.window }
         }
+    }
+}
+
+// Retype, of the Untyped in a row.
+pub fn retype(t: &mut [u32], control: &mut [u32; 4], row: Row, q: Retyping) -> Answer
+    requires { ⌜ Retypable (record { table = now t; control = now control }) (row .0) q ⌝ }
+    ensures { λ r. ⌜ record { answer = r; tables = record { table = now (t .exit); control = now (control .exit) } } ≡ carriedOut edition32 (record { table = now (t .entry); control = now (control .entry) }) (λ f. spec.retype edition32 f (row .0) q) ⌝ }
+{
+    let found = first_slot(t, q);
+    match found {
+        Found::Refused(a) => a,
+        Found::At(first) => allot(t, control, row, q, first),
     }
 }
