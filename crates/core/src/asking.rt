@@ -5,6 +5,7 @@ use model::Address;
 use model::Answer;
 use model::Cap;
 use model::Place;
+use model::Retyping;
 use model::Row;
 use table::cap_at;
 use crate::message::invokes;
@@ -68,15 +69,29 @@ pub fn asked(table: &[u32], caller: u32, message: &[u32]) -> Found
     Found::At(row)
 }
 
-// The index and depth at message word `at`, looked up from a capability.
-pub fn place(root: Cap, message: &[u32], at: usize, source: bool) -> Place
-    requires { ⌜ at + 1 ≤ 16 ⌝ }
-    ensures { λ r. ⌜ r ≡ spec.place root (now (message .entry)) at source ⌝ }
+// The index and depth at message word `at`, looked up from the capability in a row.
+pub fn place(table: &[u32], root: Row, message: &[u32], at: usize, source: bool) -> Place
+    requires { ⌜ at ≤ 16 ⌝ ∗ ⌜ root .0 * 8 + 8 ≤ length (now table) ⌝ }
+    ensures { λ r. ⌜ r ≡ spec.place (tables.capOf (now (table .entry)) (root .0)) (now (message .entry)) at source ⌝ }
 {
     Place {
-        root,
+        root: cap_at(table, root),
         index: word_at(message, at),
         depth: word_at(message, at + 1),
         source,
+    }
+}
+
+// What a message asks of Retype, with its root in a row.
+pub fn retyping(table: &[u32], root: Row, message: &[u32]) -> Retyping
+    requires { ⌜ root .0 * 8 + 8 ≤ length (now table) ⌝ }
+    ensures { λ r. ⌜ r ≡ asking.retypingBy (tables.capOf (now (table .entry))) (now (message .entry)) (root .0) ⌝ }
+{
+    Retyping {
+        object: word_at(message, 2),
+        size: word_at(message, 3),
+        into: place(table, root, message, 5, false),
+        offset: word_at(message, 7),
+        window: word_at(message, 8),
     }
 }
