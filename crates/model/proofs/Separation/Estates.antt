@@ -106,13 +106,13 @@ module _ (E : Edition) (f : Forest) (j k : ℕ) where
   brings-name h t s = or-right (houses E (capAt f j) k || lower) twins (rw (h, t) s)
 
   pub brings-cases : {X : Type 0} → brings E f j k ≡ true → (houses E (capAt f j) k ≡ true → X) → ((d : Entry) → Has d (entries (below f j)) → d .row ≡ k → X)
-    → (isEmpty (capAt f j) ≡ false → isUntyped (capAt f j) ≡ false → sameObject (capAt f j) (capAt f k) ≡ true → X) → X
+      → (isEmpty (capAt f j) ≡ false → isUntyped (capAt f j) ≡ false → sameObject (capAt f j) (capAt f k) ≡ true → X) → X
   unfolding brings
   brings-cases h p q r =
       or-cases (houses E (capAt f j) k || lower) twins h
       (λ t. or-cases (houses E (capAt f j) k) lower t p (λ u. let (d, m, e) = any-some (λ d. eqb (d .row) k) (entries (below f j)) u in q d m (eqb-true (d .row) k e)))
       (λ t.
-        let a = not (isEmpty (capAt f j)) in
-        let b = not (isUntyped (capAt f j)) in
-        let c = sameObject (capAt f j) (capAt f k) in
-        r (not-true (isEmpty (capAt f j)) (and-left a b (and-left (a && b) c t))) (not-true (isUntyped (capAt f j)) (and-right a b (and-left (a && b) c t))) (and-right (a && b) c t))
+      let a = not (isEmpty (capAt f j)) in
+      let b = not (isUntyped (capAt f j)) in
+      let c = sameObject (capAt f j) (capAt f k) in
+      r (not-true (isEmpty (capAt f j)) (and-left a b (and-left (a && b) c t))) (not-true (isUntyped (capAt f j)) (and-right a b (and-left (a && b) c t))) (and-right (a && b) c t))

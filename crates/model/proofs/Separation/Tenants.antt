@@ -102,15 +102,15 @@ module _ {E : Edition} {m : ℕ} {f : Forest} (s : Sound E m f) where
         comes j k l i b =
             brings-cases E f j k b
             (λ h. let z = houses-parts E (capAt f j) k h in
-                  let lo = z .low in let hi = z .high in
-                  let e : firstRow E (capAt f j) + (k - firstRow E (capAt f j)) ≡ k = omega arith in
-                  dom .inner k (subst (In (M a)) e (owns-at dom j i .ofSlots (z .cnode) (k - firstRow E (capAt f j)) (omega arith))))
+            let lo = z .low in let hi = z .high in
+            let e : firstRow E (capAt f j) + (k - firstRow E (capAt f j)) ≡ k = omega arith in
+            dom .inner k (subst (In (M a)) e (owns-at dom j i .ofSlots (z .cnode) (k - firstRow E (capAt f j)) (omega arith))))
             (λ d p e. subst (In (D a)) e (every-has (InE (D a)) (below f j) (below-in (D a) f j i (dom .closed)) p))
             (λ h t c.
-              let (x, p, r, q) = entry-at s j h in
-              let (y, u, v, o) = entry-at s k (sym (same-empty (same-parts (capAt f j) (capAt f k) c)) ∙ h) in
-              let own = back sane s (estate-whole a) p (subst (In (D a)) (sym r) i) in
-              subst (In (D a)) v (row-in E f (inEstate a) y u (estate-whole a .namesOf x y p u own (rw (← q) t) (rw (← q, ← o) c))))
+            let (x, p, r, q) = entry-at s j h in
+            let (y, u, v, o) = entry-at s k (sym (same-empty (same-parts (capAt f j) (capAt f k) c)) ∙ h) in
+            let own = back sane s (estate-whole a) p (subst (In (D a)) (sym r) i) in
+            subst (In (D a)) v (row-in E f (inEstate a) y u (estate-whole a .namesOf x y p u own (rw (← q) t) (rw (← q, ← o) c))))
 
     requests : Tenancy E Who M D (asked E)
     requests = tenancy (λ a i. served-keeps sane a i)
@@ -131,7 +131,7 @@ module _ {E : Edition} {m : ℕ} {f : Forest} (s : Sound E m f) where
 
       -- and no capability in its estate
       pub tenants-caps : (a : ℕ) → Who a → (p : Sent (List ℕ) → Bool) → ((z : Sent (List ℕ)) → z .caller ≡ a → p z ≡ true) → (k : ℕ) → Has k (estate E f (rows E m) a)
-        → capAt (forestAfter (asked E) f zs) k ≡ capAt (forestAfter (asked E) f (keep p zs)) k
+          → capAt (forestAfter (asked E) f zs) k ≡ capAt (forestAfter (asked E) f (keep p zs)) k
       tenants-caps a w p h k i =
           let j = estate-in a w k i in
           sym (capAt-part (D a) (forestAfter (asked E) f zs) k j) ∙ ap (λ g. capAt g k) (struck-part requests f domains zs ours a w p h) ∙ capAt-part (D a) (forestAfter (asked E) f (keep p zs)) k j
