@@ -37,6 +37,7 @@ module _ (E : Edition) (f : Forest) (n : ℕ) where
   abbrev pub Brought : (ℕ → Type 0) → Type 0
   Brought C = (j k : ℕ) → k < n → C j → brings E f j k ≡ true → C k
 
+  -- row k is in the set, or a row of the set brings it
   comes : List ℕ → ℕ → Bool
   comes set k = member k set || any (λ j. brings E f j k) set
 

@@ -35,6 +35,7 @@ abbrev pub asked : Edition → ℕ → Forest → List ℕ → Did Answer
 asked E caller f message = didOf (served E f caller message)
 
 module _ {E : Edition} {m : ℕ} {f : Forest} (s : Sound E m f) where
+  -- a row is in the estate of a root row
   pub inEstate : ℕ → ℕ → Bool
   inEstate root k = member k (estate E f (rows E m) root)
 
