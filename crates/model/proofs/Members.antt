@@ -33,6 +33,10 @@ module _ {A : Type 0} where
   all-mem P p (List·Memᴰ·head e) = subst P (sym e) (p .0)
   all-mem P p (List·Memᴰ·tail m) = all-mem P (p .1) m
 
+  pub all-from : (P : A → Type 0) (xs : List A) → ((x : A) → List·Memᴰ x xs → P x) → All P xs
+  all-from P [] h = tt
+  all-from P (x ∷ xs) h = (h x (List·Memᴰ·head refl), all-from P xs (λ y m. h y (List·Memᴰ·tail m)))
+
 -- ---- members
 
 abbrev pub Has : {A : Type 0} → A → List A → Type 0
@@ -79,6 +83,11 @@ module _ {A : Type 0} where
   unfolding keep
   has-keep p {x} (List·Memᴰ·head {x = y} {xs = ys} e) t = rw (ap p (sym e) ∙ t) (List·Memᴰ·head e)
   has-keep p (List·Memᴰ·tail {x = y} {xs = ys} m) t = either (p y) (λ u. rw u (List·Memᴰ·tail (has-keep p m t))) (λ f. rw f (has-keep p m t))
+
+  pub keep-ext : (p q : A → Bool) (xs : List A) → ((x : A) → Has x xs → p x ≡ q x) → keep p xs ≡ keep q xs
+  unfolding keep
+  keep-ext p q [] h = refl
+  keep-ext p q (x ∷ xs) h = rw (h x (List·Memᴰ·head refl), keep-ext p q xs (λ y m. h y (List·Memᴰ·tail m)))
 
   pub keep-keep : (p q r : A → Bool) (xs : List A) → ((x : A) → Has x xs → p x ≡ (q x && r x)) → keep p xs ≡ keep r (keep q xs)
   unfolding keep

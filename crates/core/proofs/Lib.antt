@@ -1,0 +1,3 @@
+mod CommonOrder
+mod BootRows
+mod BootAnswers
