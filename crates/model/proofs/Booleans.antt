@@ -63,7 +63,3 @@ within-parts least n greatest e =
 pub parts-within : (least n greatest : ℕ) → least ≤ n → n ≤ greatest → within least n greatest ≡ true
 unfolding within
 parts-within least n greatest h k = and-intro (le-leb least n h) (le-leb n greatest k)
-
-pub or-false : (b c : Bool) → (b || c) ≡ false → (b ≡ false) × (c ≡ false)
-or-false false c h = (refl, h)
-or-false true c h = absurd (true≢false h)

@@ -19,6 +19,7 @@ use Rattle.model.specs.Request.{Outcome, applied, carriedOut}
 use Rattle.model.proofs.Words.WellFormed.{roomy32, write-read}
 use Rattle.model.proofs.Words.Caps.{caps-read}
 use Rattle.model.proofs.Words.Descendants.{children-test}
+use Rattle.model.proofs.Kept.Allowed.{untyped-filled}
 use Rattle.model.proofs.Transfer.Held.{held-at, held-fits}
 use Rattle.model.proofs.Transfer.Outcome.{comes-refused, comes-done}
 use Rattle.model.proofs.Retype.Allotted.{write-allotted}
@@ -30,7 +31,7 @@ use Rattle.retype.proofs.Bytes.{bytes-small, at-small, objects-most}
 use Rattle.retype.proofs.Passed.{through, same}
 use Rattle.retype.proofs.Tests.{then-bind}
 use Rattle.retype.proofs.Whole.{taken-by}
-use Rattle.retype.proofs.Untyped.{Small, small, untyped-filled}
+use Rattle.retype.proofs.Untyped.{Small, small}
 
 -- the memory's test, then the deed
 allot-by : (E : Edition) (k : ℕ) (u : Cap) (from : ℕ) (q : Retyping) (first : ℕ) → allot E k u from q first ≡ (memoryFor E u from q >>= λ at. passed (allotted E k u at q first))

@@ -1,7 +1,7 @@
 -- What is known where Retype's tests have passed.
 use Prim.Native.Nat.{ℕ, _+_, _-_, _*_, _≤_, _<_}
 use mathlib.Core.Path.{_≡_, refl, sym, ap, _∙_, subst}
-use mathlib.Core.Bool.{Bool, true, false, not, _||_, false≢true}
+use mathlib.Core.Bool.{Bool, true, false, not, _||_}
 use mathlib.Core.List.{List}
 use native.Mathlib.Omega.{arith}
 use lib.Dec.{leb, ltb, eqb}
@@ -17,6 +17,7 @@ use Rattle.model.specs.Check.{Check, passed, refused, refuse, _>>=_, _>>_}
 use Rattle.model.specs.Operations.{slotOf}
 use Rattle.model.specs.Lookup.{lookup}
 use Rattle.model.specs.Tables.{capOf}
+use Rattle.model.proofs.Booleans.{or-none}
 use Rattle.lookup.specs.Ready.{Ready, Usable}
 use Rattle.retype.specs.Window.{Known, sized, nodeBy, windowIn, takenBy, vacantIn, firstSlot}
 
@@ -50,10 +51,6 @@ pub record Placed (n : Cap) (q : Retyping) (k : ℕ) : Type 0 where
   pub most : q .window ≤ 256
   pub fits : q .offset + q .window ≤ slots n
 
-neither : (a b : Bool) → (a || b) ≡ false → (a ≡ false) × (b ≡ false)
-neither false b e = (refl, e)
-neither true b e = absurd (false≢true (sym e))
-
 pub window-placed : (n : Cap) (q : Retyping) (k : ℕ) → windowIn edition32 n q ≡ passed k → Placed n q k
 unfolding windowIn
 window-placed n q k e =
@@ -61,7 +58,7 @@ window-placed n q k e =
     let b = through _ _ _ k (a .1) in
     let c = through _ _ _ k (b .1) in
     let d = through _ _ _ k (c .1) in
-    let w = neither _ _ (c .0) in
+    let w = or-none _ _ (c .0) in
     let some : q .window ≡ 0 → ⊥ = eqb-false _ 0 (w .0) in
     record {
       node = not-false _ (a .0);

@@ -1,49 +1,28 @@
--- An Untyped in a row of well-formed tables: its size, where it lies, and its watermark; and a row's depth and the count of rows are small.
-use Prim.Native.Nat.{ℕ, _+_, _-_, _*_, _%_, _^_, _≤_, _<_}
+-- An Untyped in a row of well-formed tables: its size, where it lies and its watermark; and a row's depth and the count of rows are small.
+use Prim.Native.Nat.{ℕ, _+_, _-_, _*_, _^_, _≤_, _<_}
 use mathlib.Core.Path.{_≡_}
 use mathlib.Core.Bool.{true, false}
 use native.Mathlib.Omega.{arith}
-use lib.Dec.{leb, eqb}
 use lib.ListN.{getD, length}
 use lib.Pow.{pow-mono}
-use borrow.Author.Tests.{eqb-true, leb-true, ne-eqb}
+use borrow.Author.Tests.{eqb-true}
 use Rattle.model.specs.Edition.{edition32}
 use Rattle.model.specs.declared.Cap.{Cap}
 use Rattle.model.specs.Cap.{isEmpty, isUntyped, bytes, exponent, limit}
 use Rattle.model.specs.Tables.{Tables, rows, word, capOf}
-use Rattle.model.specs.Rules.{wellFormed, rowAllowed, capAllowed, sizeAllowed, placeAllowed, thirdAllowed, mInRange}
-use Rattle.model.proofs.Booleans.{and-right, part, within-parts}
+use Rattle.model.specs.Rules.{wellFormed, rowAllowed, capAllowed, mInRange}
+use Rattle.model.proofs.Booleans.{within-parts}
 use Rattle.model.proofs.Words.WellFormed.{roomy32, formed}
+use Rattle.model.proofs.Kept.Allowed.{limit-of, mark-of, untyped-size, untyped-filled}
 use Rattle.model.proofs.Transfer.Held.{counted-most, depth-below}
 
-untyped-kind : (c : Cap) → isUntyped c ≡ true → c .kind ≡ 1
-unfolding isUntyped
-untyped-kind c h = eqb-true _ 1 h
+exponent-small : (m : ℕ) (c : Cap) → m ≤ 16 → isUntyped c ≡ true → capAllowed edition32 m c ≡ true → exponent edition32 (c .kind - 1) (c .size) ≤ 15
+unfolding exponent isUntyped
+exponent-small m c low untyped allowed = rw (eqb-true (c .kind) 1 untyped) (omega (arith, untyped-size edition32 m c allowed untyped .1))
 
-pub untyped-filled : (c : Cap) → isUntyped c ≡ true → isEmpty c ≡ false
-unfolding isEmpty
-untyped-filled c h = let off : c .kind ≡ 0 → ⊥ = omega (arith, untyped-kind c h) in ne-eqb _ 0 off
-
--- an Untyped that is allowed in memory of at most 2^16 bytes
-module _ (m : ℕ) (c : Cap) (low : m ≤ 16) (untyped : isUntyped c ≡ true) (allowed : capAllowed edition32 m c ≡ true) where
-  size-small : exponent edition32 (c .kind - 1) (c .size) ≤ 15
-  unfolding capAllowed sizeAllowed exponent
-  size-small =
-      let h : sizeAllowed edition32 m c ≡ true = part _ 1 allowed in
-      rw (untyped-kind c untyped) (omega (arith, within-parts 4 (c .size) (m - 1) (rw (sizeAllowed, untyped) at h) .1))
-
-  place-small : c .address .0 ≤ 65536
-  unfolding capAllowed placeAllowed limit
-  place-small =
-      let h : leb (limit edition32 c) (2 ^ m) ≡ true = and-right (eqb (c .address .0 % bytes edition32 c) 0) (leb (limit edition32 c) (2 ^ m)) (part _ 2 allowed) in
-      let p : 2 ^ m ≤ 2 ^ 16 = pow-mono {i = m} {j = 16} low in
-      omega (arith, leb-true (limit edition32 c) (2 ^ m) h)
-
-  mark-inside : c .third ≤ bytes edition32 c
-  unfolding capAllowed thirdAllowed
-  mark-inside =
-      let h : thirdAllowed edition32 c ≡ true = part _ 3 allowed in
-      leb-true _ _ (and-right (eqb (c .third % 16) 0) (leb (c .third) (bytes edition32 c)) (rw (thirdAllowed, untyped) at h))
+place-small : (m : ℕ) (c : Cap) → m ≤ 16 → capAllowed edition32 m c ≡ true → c .address .0 ≤ 65536
+unfolding limit
+place-small m c low allowed = let p : 2 ^ m ≤ 2 ^ 16 = pow-mono {i = m} {j = 16} low in omega (arith, limit-of edition32 m c allowed)
 
 -- what is small in tables that keep the rules
 pub record Small (t : Tables) (k : ℕ) : Type 0 where
@@ -67,9 +46,9 @@ small t e k untyped inside =
     let row : rowAllowed edition32 m (t .table) k ≡ true = w .eachRow k (omega (arith, w .tableLong)) in
     let allowed : capAllowed edition32 m c ≡ true = rw (rowAllowed, filled) at row in
     record {
-      size = size-small m c range untyped allowed;
-      place = place-small m c range untyped allowed;
-      mark = mark-inside m c range untyped allowed;
+      size = exponent-small m c range untyped allowed;
+      place = place-small m c range allowed;
+      mark = mark-of edition32 m c allowed untyped;
       depth = omega (arith, depth-below edition32 roomy32 t e k filled, counted-most edition32 roomy32 t e);
       count = omega (arith, counted-most edition32 roomy32 t e);
       long = w .tableLong;

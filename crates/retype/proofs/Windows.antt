@@ -2,11 +2,8 @@
 use Prim.Native.Nat.{ℕ, _+_, _-_, _/_, _^_, _≤_, _<_}
 use mathlib.Core.Path.{_≡_, sym, ap, _∙_}
 use mathlib.Core.Bool.{Bool, true, false, not, _||_}
-use native.Mathlib.Nat.{le-trans}
-use native.Mathlib.Decide.{decLt}
 use native.Mathlib.Omega.{arith}
 use lib.Dec.{leb, ltb, eqb}
-use lib.Pow.{pow-mono}
 use borrow.Author.Tests.{eq-eqb, ne-eqb, le-leb, lt-leb, lt-ltb, le-ltb}
 use Rattle.model.specs.Edition.{Edition, edition32}
 use Rattle.model.specs.declared.Answer.the-variants.{RangeError, FailedLookup}
@@ -15,6 +12,7 @@ use Rattle.model.specs.declared.Failure.the-variants.{Missing}
 use Rattle.model.specs.declared.Retyping.{Retyping}
 use Rattle.model.specs.Cap.{isCNode, firstRow, slots}
 use Rattle.model.specs.Check.{passed, refused, refuse, _>>_}
+use Rattle.model.proofs.Kept.Powers.{exponent-le}
 use Rattle.retype.specs.Window.{windowIn}
 use Rattle.retype.proofs.Tests.{stops, passes}
 
@@ -26,17 +24,10 @@ pub no-node : (E : Edition) (n : Cap) (q : Retyping) → (n .kind ≡ 5 → ⊥)
 unfolding windowIn isCNode
 no-node E n q h = stops _ _ _ rw (ne-eqb (n .kind) 5 h)
 
--- a power of two that is small has a small exponent
-pub exponent-of : (e : ℕ) → 2 ^ e ≤ 4096 → e ≤ 12
-exponent-of e h = elim (decLt 12 e) [ yes l ↦ absurd (big l) | no l ↦ omega arith ]
-  where
-    big : 12 < e → ⊥
-    big l = let p : 2 ^ 13 ≤ 2 ^ e = pow-mono {i = 13} {j = e} (omega arith) in omega arith
-
 module _ (n : Cap) (q : Retyping) (room : isCNode n ≡ true → firstRow edition32 n + slots n ≤ 4096) (node : n .kind ≡ 5) where
   pub radix-small : n .size ≤ 12
   unfolding slots
-  radix-small = exponent-of (n .size) (omega (arith, room (node-kind n node)))
+  radix-small = exponent-le 12 (n .size) (omega (arith, room (node-kind n node)))
 
 -- `w` is the number of slots
 module _ (n : Cap) (q : Retyping) (w : ℕ) (is : w ≡ slots n) (node : n .kind ≡ 5) where

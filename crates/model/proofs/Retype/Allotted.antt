@@ -11,7 +11,7 @@ use Rattle.model.specs.Edition.{Edition}
 use Rattle.model.specs.declared.Cap.{Cap}
 use Rattle.model.specs.declared.Retyping.{Retyping}
 use Rattle.model.specs.Cap.{isEmpty, exponent}
-use Rattle.model.specs.Tree.{Entry, graft}
+use Rattle.model.specs.Tree.{Entry}
 use Rattle.model.specs.Stores.{linkedRun, recapped}
 use Rattle.model.specs.Tables.{Tables, rows, word, capOf, read, write}
 use Rattle.model.specs.Rules.{wellFormed}
@@ -22,7 +22,8 @@ use Rattle.model.proofs.Distinct.{Fresh}
 use Rattle.model.proofs.Words.WellFormed.{Roomy, write-read, good-read}
 use Rattle.model.proofs.Words.Grafted.{write-grafted}
 use Rattle.model.proofs.Transfer.Held.{held-at, held-fits, empty-fresh}
-use Rattle.model.proofs.Retype.Made.{madeRows, made-length, made-each, made-distinct, none-taken}
+use Rattle.model.proofs.Kept.NewObjects.{made-distinct}
+use Rattle.model.proofs.Retype.Made.{made-length, made-each, none-taken}
 
 -- another watermark is one store
 recapped-third : (t : List ℕ) (k w : ℕ) → recapped t k (withThird (capOf t k) w) ≡ set t (k * 8 + 3) w
@@ -67,7 +68,7 @@ module _ (E : Edition) (law : Roomy E) (t : Tables) (e : wellFormed E t ≡ true
       })
       (write-read E law t e)
       (write-grafted E (read E t) (held-fits E law t e) k (held-at E law t e k some) (λ c. withThird c newEnd) newEntries
-      (made-distinct E (q .object) (q .size) first (u .address .0 + at) (q .window))
+      (made-distinct E (q .object) (q .size) (q .window) first (u .address .0 + at))
       (made-each E (q .object) (q .size) (λ j. Fresh j (rowsOf (read E t .forest))) first (u .address .0 + at) (q .window) fresh)
       (made-each E (q .object) (q .size) (λ j. j < rows E (getD (t .control) 0 0)) first (u .address .0 + at) (q .window) (λ j h l. omega arith)))
 
