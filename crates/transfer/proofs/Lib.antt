@@ -5,3 +5,5 @@ pub mod Bounds
 pub mod Stored
 pub mod Along
 pub mod Planned
+pub mod Located
+pub mod Turning
