@@ -6,7 +6,6 @@ use mathlib.Core.Bool.{cond, true}
 use mathlib.Core.List.{List, [], _++_, _∷_}
 use lib.Dec.{eqb}
 use Rattle.model.specs.declared.Answer.{Answer}
-use Rattle.model.specs.declared.Answer.the-variants.{BadTables}
 use Rattle.model.specs.Lists.{shareNone}
 use Rattle.model.specs.Edition.{Edition}
 use Rattle.model.specs.Cap.{isCNode}
@@ -15,11 +14,10 @@ use Rattle.model.specs.Check.{Check, passed, refused, _>>=_}
 use Rattle.model.specs.Tables.{State, Tables, read, rows, write}
 use Rattle.model.specs.Rules.{wellFormed}
 use Rattle.model.specs.Operations.{Done}
-use Rattle.model.specs.Request.{Outcome, applied, concluded, request, served}
+use Rattle.model.specs.Request.{Outcome, applied, carriedOut, concluded, request, served}
 use Rattle.model.specs.Estate.{estate}
 use Rattle.model.proofs.Members.{All, Has}
 use Rattle.model.proofs.State.{Good}
-use Rattle.model.proofs.Kept.Checks.{go-on}
 use Rattle.model.proofs.Kept.Figures.{Sane}
 use Rattle.model.proofs.Kept.Serving.{served-good}
 use Rattle.model.proofs.Separation.Merge.{Sent, answersTo, by, forestAfter, inTurn, stepped}
@@ -58,9 +56,9 @@ module _ {E : Edition} (faithful : Faithful E) (sane : Sane E) where
     good : Good E (withForest s (edited (s .forest) (asked E caller (s .forest) message .acts)))
 
   opened : (s : State) → Good E s → (caller : ℕ) (message : List ℕ) → request E (write E s) caller message ≡ concluded E (write E s) (served E (s .forest) caller message >>= λ d. passed (applied s d))
-  unfolding request
+  unfolding request carriedOut
   opened s g caller message =
-      ap (concluded E (write E s)) (go-on BadTables _ (rw (faithful .formed s g)) ∙ ap (λ (x : State). served E (x .forest) caller message >>= λ d. passed (applied x d)) (faithful .reads s g))
+      rw (faithful .formed s g) (ap (λ (x : State). concluded E (write E s) (served E (x .forest) caller message >>= λ d. passed (applied x d))) (faithful .reads s g))
 
   step : (s : State) → Good E s → (caller : ℕ) (message : List ℕ) → Step s caller message
   step s g caller message = go (served E (s .forest) caller message) refl
