@@ -27,11 +27,11 @@ use Rattle.core.proofs.Carried.{carried-same, caps-are, root-found, roo
 pub retypable : (t : Tables) (message : List ℕ) (k : ℕ) → wellFormed edition32 t ≡ true → k * 8 + 8 ≤ length (t .table) → isUntyped (capOf (t .table) k) ≡ true → (root : ℕ) (q : Retyping) → q ≡ retypingBy (capOf (t .table)) message root → Retypable t k q
 unfolding retypingBy place
 retypable t message k formed inside untyped root q e =
-    record
-    { formed = formed
-    ; untyped = untyped
-    ; inTable = inside
-    ; usable = subst (λ (z : Retyping). isCNode (z .into .root) ≡ true → Usable (t .table) (z .into .root)) (sym e) (usable t formed root)
+    record {
+      formed = formed;
+      untyped = untyped;
+      inTable = inside;
+      usable = subst (λ (z : Retyping). isCNode (z .into .root) ≡ true → Usable (t .table) (z .into .root)) (sym e) (usable t formed root);
     }
 
 module _ (t : Tables) (formed : wellFormed edition32 t ≡ true) (caller : ℕ) (message : List ℕ) (k : ℕ) where

@@ -10,8 +10,8 @@ use model::Retyping;
 use model::Row;
 use model::exponent;
 use table::cap_at;
-use table::row_of;
 use table::has_children;
+use table::row_of;
 use table::size::bytes_of;
 use table::size::pow2;
 use table::size::slots_of;
@@ -230,15 +230,7 @@ pub fn first_slot(t: &[u32], q: Retyping) -> Found
 }
 
 // The window's new capabilities, in rows from `first`, for objects in a row from `address`, listed after one row and before `next`.
-fn link_new(
-    t: &mut [u32],
-    after: Row,
-    next: u32,
-    depth: u32,
-    q: Retyping,
-    first: Row,
-    address: u32,
-)
+fn link_new(t: &mut [u32], after: Row, next: u32, depth: u32, q: Retyping, first: Row, address: u32)
     requires { ⌜ Room (now t) (after .0) q (first .0) address ⌝ }
     ensures { λ _. ⌜ now (t .exit) ≡ linkedRun (now (t .entry)) (after .0) next (newRows q depth (first .0) address (q .window)) ⌝ }
 {
@@ -258,14 +250,7 @@ fn link_new(
 }
 
 // The window's objects made from byte `at` of the Untyped in a row: its watermark at their end, their capabilities straight after it.
-fn lay_out(
-    t: &mut [u32],
-    control: &mut [u32; 4],
-    row: Row,
-    q: Retyping,
-    first: Row,
-    at: u32,
-)
+fn lay_out(t: &mut [u32], control: &mut [u32; 4], row: Row, q: Retyping, first: Row, at: u32)
     requires { ⌜ Layable (record { table = now t; control = now control }) (row .0) (first .0) at q ⌝ }
     ensures { λ _. ⌜ record { table = now (t .exit); control = now (control .exit) } ≡ laidOut (record { table = now (t .entry); control = now (control .entry) }) (row .0) (first .0) at q ⌝ }
 {

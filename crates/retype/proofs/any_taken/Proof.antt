@@ -38,10 +38,11 @@ loop-less : tie.Need-loop-less Inv-loop μ-loop
 loop-less c = omega arith
 
 loop-again : tie.Need-loop-again Inv-loop μ-loop
-loop-again c =
-    (omega (arith, c .before .before .before .loop .inv .0),
-    taken-next _ _ _ (c .before .before .loop-test .taken) (empty-word _ _ _ (c .before .word .ensures) (c .if1 .left))
-    ∙ c .before .before .before .loop .inv .1)
+loop-again c = (
+  omega (arith, c .before .before .before .loop .inv .0),
+  taken-next _ _ _ (c .before .before .loop-test .taken) (empty-word _ _ _ (c .before .word .ensures) (c .if1 .left))
+      ∙ c .before .before .before .loop .inv .1,
+)
 
 returns-2 : tie.Need-returns-2 Inv-loop μ-loop
 returns-2 c = taken-none _ _ _ (omega arith) ∙ c .before .loop .inv .1

@@ -37,10 +37,11 @@ judged : (k : tie.After-node) → passed tt ≡ sized edition32 (k .before .befo
 judged k = ap ofJudged (sym (k .before .before .enum-told .given .1)) ∙ k .before .before .before .before .sized .ensures
 
 vacant-window-requires : tie.Need-vacant-window-requires
-vacant-window-requires c κs =
-    (c .before .before .before .before .before .before .before .before .before .pre .0,
-    node-usable _ _ _ (c .before .before .before .before .before .before .before .before .before .pre .0) (c .before .before .before .before .before .before .before .before .before .pre .1)
-    (ap ofTaker (sym (c .before .taker2 .given .1)) ∙ c .before .before .before .node .ensures))
+vacant-window-requires c κs = (
+  c .before .before .before .before .before .before .before .before .before .pre .0,
+  node-usable _ _ _ (c .before .before .before .before .before .before .before .before .before .pre .0) (c .before .before .before .before .before .before .before .before .before .pre .1)
+      (ap ofTaker (sym (c .before .taker2 .given .1)) ∙ c .before .before .before .node .ensures),
+)
 
 returns-2 : tie.Need-returns-2
 returns-2 c = first-no-node _ _ _ (judged (c .before .before .before)) _ (ap ofTaker (sym (c .before .taker .given .1)) ∙ c .before .before .before .node .ensures)

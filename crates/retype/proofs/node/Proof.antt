@@ -27,7 +27,7 @@ returns-2 : tie.Need-returns-2
 returns-2 c =
     ap passed (c .cap-at .ensures)
     ∙ node-found _ _ _ (c .before .before .before .before .before .if1 .left) _
-      (ap ofFound (sym (c .before .before .found .given .1)) ∙ c .before .before .before .before .find .ensures .is)
+    (ap ofFound (sym (c .before .before .found .given .1)) ∙ c .before .before .before .before .find .ensures .is)
 
 returns-3 : tie.Need-returns-3
 returns-3 c =

@@ -21,10 +21,11 @@ enum-known-found-2 : tie.Need-enum-known-found-2
 enum-known-found-2 c = search needs
 
 any-taken-requires : tie.Need-any-taken-requires
-any-taken-requires c κs =
-    (c .before .before .before .before .before .pre .0,
-    window-inside _ _ _ _ (c .before .before .before .before .before .pre .1)
-    (ap ofFound (sym (c .before .found2 .given .1)) ∙ c .before .before .before .window .ensures))
+any-taken-requires c κs = (
+  c .before .before .before .before .before .pre .0,
+  window-inside _ _ _ _ (c .before .before .before .before .before .pre .1)
+      (ap ofFound (sym (c .before .found2 .given .1)) ∙ c .before .before .before .window .ensures),
+)
 
 returns : tie.Need-returns
 returns c =
