@@ -5,7 +5,8 @@ pub mod State
 pub mod Order
 pub mod Tempting
 pub mod Words
-pub mod Transfer
 pub mod Removal
 pub mod Kept
 pub mod Separation
+pub mod Transfer
+pub mod Retype
