@@ -2,3 +2,4 @@ pub mod Booleans
 pub mod Members
 pub mod Distinct
 pub mod State
+pub mod Words
