@@ -27,13 +27,13 @@ use Rattle.model.specs.Operations.{Done, copy, move, rotate, delete, rev
 
 -- ---- the numbers of an answer
 
-unfoldable pub ofFailure : Failure → List ℕ
+abbrev pub ofFailure : Failure → List ℕ
 ofFailure InvalidRoot = 1 ∷ 0 ∷ 0 ∷ 0 ∷ []
 ofFailure (Missing bits) = 2 ∷ bits ∷ 0 ∷ 0 ∷ []
 ofFailure (DepthMismatch bits resolved) = 3 ∷ bits ∷ resolved ∷ 0 ∷ []
 ofFailure (GuardMismatch bits guard size) = 4 ∷ bits ∷ guard ∷ size ∷ []
 
-unfoldable pub sixWords : Answer → List ℕ
+abbrev pub sixWords : Answer → List ℕ
 sixWords (Success count) = 0 ∷ count ∷ 0 ∷ 0 ∷ 0 ∷ 0 ∷ []
 sixWords (InvalidArgument argument) = 1 ∷ argument ∷ 0 ∷ 0 ∷ 0 ∷ 0 ∷ []
 sixWords InvalidCapability = 2 ∷ 0 ∷ 0 ∷ 0 ∷ 0 ∷ 0 ∷ []
@@ -178,9 +178,10 @@ served E f caller message = do
 unfoldable pub applied : State → Done → Changed
 applied s d = record { count = d .count; state = record { m = s .m; r = s .r; forest = edit (d .deed) (s .forest) } }
 
+-- what comes of an operation on tables that keep the rules
+unfoldable pub carriedOut : Edition → Tables → (operation : Forest → Check Done) → Outcome
+carriedOut E t operation = concluded E t (operation (read E t .forest) >>= λ d. passed (applied (read E t) d))
+
 -- Any tables and any message get an answer.
 unfoldable pub request : Edition → Tables → (caller : ℕ) → (message : List ℕ) → Outcome
-request E t caller message = concluded E t (do
-  refuse BadTables (not (wellFormed E t))
-  done ← served E (read E t .forest) caller message
-  passed (applied (read E t) done))
+request E t caller message = cond (wellFormed E t) (carriedOut E t (λ f. served E f caller message)) (record { answer = BadTables; tables = t })

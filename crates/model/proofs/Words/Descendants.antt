@@ -90,15 +90,15 @@ all-after P (q ∷ pre) x post a = all-after P pre x post (a .1)
 
 pub children-test : (E : Edition) (s : State) → Fits E (rows E (s .m)) (s .forest) → (k : ℕ) → At k (s .forest)
     → hasChildren (s .forest) k
-      ≡ cond (eqb (word (write E s .table) k 5) (E .none)) false (ltb (word (write E s .table) k 7) (word (write E s .table) (word (write E s .table) k 5) 7))
+    ≡ cond (eqb (word (write E s .table) k 5) (E .none)) false (ltb (word (write E s .table) k 7) (word (write E s .table) (word (write E s .table) k 5) 7))
 unfolding write
 children-test E s fits k p =
     subst (λ (j : ℕ). hasChildren (s .forest) k ≡ cond (eqb (word t j 5) (E .none)) false (ltb (word t j 7) (word t (word t j 5) 7))) (p .row)
-      (children-deeper k (s .forest) p (fits .distinct)
-       ∙ first-deeper E (rows E (s .m)) (rowAt t) (p .entry .row) (depthOf 0 (p .around)) (listedAfter p) (fits .room)
-           (all-after (λ j. j < rows E (s .m)) (listedBefore p) (listedOf p) (listedAfter p) (below-at E s fits k p))
-           (holds-after E (rowAt t) (E .none) (listedBefore p) (listedOf p) (listedAfter p) (written-at E s fits k p .holds))
-       ∙ (λ i. cond (eqb (sym (next-at E s fits k p) i) (E .none)) false (ltb (sym (depth-at E s fits k p) i) (word t (sym (next-at E s fits k p) i) 7))))
+    (children-deeper k (s .forest) p (fits .distinct)
+    ∙ first-deeper E (rows E (s .m)) (rowAt t) (p .entry .row) (depthOf 0 (p .around)) (listedAfter p) (fits .room)
+    (all-after (λ j. j < rows E (s .m)) (listedBefore p) (listedOf p) (listedAfter p) (below-at E s fits k p))
+    (holds-after E (rowAt t) (E .none) (listedBefore p) (listedOf p) (listedAfter p) (written-at E s fits k p .holds))
+    ∙ (λ i. cond (eqb (sym (next-at E s fits k p) i) (E .none)) false (ltb (sym (depth-at E s fits k p) i) (word t (sym (next-at E s fits k p) i) 7))))
   where
     t : List ℕ
     t = T E s fits k p
@@ -112,7 +112,7 @@ deeperRun E t (suc n) d k = cond (eqb k (E .none)) [] (cond (ltb d (word t k 7))
 
 deeper-run : (E : Edition) (n : ℕ) (t : List ℕ) (fuel before d : ℕ) (us ps : List Listed) → n ≤ E .none → All (λ j. j < n) (rowsIn (us ++ ps)) → Holds E (rowAt t) before (us ++ ps)
     → All (λ x. d < x .depth) us → Low (d + 1) ps → length us ≤ fuel → deeperRun E t fuel d (firstOf E (us ++ ps)) ≡ us
-unfolding deeperRun firstOf capOf 
+unfolding deeperRun firstOf capOf
 deeper-run E n t zero before d [] ps room b h a l e = refl
 deeper-run E n t (suc fuel) before d [] [] room b h a l e = rw (eq-eqb (E .none) (E .none) refl)
 deeper-run E n t (suc fuel) before d [] (z ∷ ps) room b h a l e =
@@ -123,19 +123,19 @@ deeper-run E n t (suc fuel) before d (u ∷ us) ps room b h a l e =
     let deep-u : word t (u .entry .row) 7 ≡ u .depth = ap (λ (r : List ℕ). getD r 7 0) (h .0) in
     let on = deeper-run E n t fuel (u .entry .row) d us ps room (b .1) (h .1) (a .1) l (omega arith) in
     rw (ne-eqb (u .entry .row) (E .none) (omega arith), lt-ltb d (word t (u .entry .row) 7) (omega (arith, a .0)))
-      (ap (λ (r : List ℕ). record { entry = record { row = u .entry .row; cap = capFrom r }; depth = getD r 7 0 } ∷ deeperRun E t fuel d (getD r 5 0)) (h .0)
-       ∙ ap {B = List Listed} (λ ys. u ∷ ys) on)
+    (ap (λ (r : List ℕ). record { entry = record { row = u .entry .row; cap = capFrom r }; depth = getD r 7 0 } ∷ deeperRun E t fuel d (getD r 5 0)) (h .0)
+    ∙ ap {B = List Listed} (λ ys. u ∷ ys) on)
 
 pub descendants-run : (E : Edition) (s : State) (fits : Fits E (rows E (s .m)) (s .forest)) (k : ℕ) (p : At k (s .forest)) (fuel : ℕ) → length (listedUnder p) ≤ fuel
     → deeperRun E (write E s .table) fuel (word (write E s .table) k 7) (word (write E s .table) k 5) ≡ listedUnder p
 unfolding write
 descendants-run E s fits k p fuel e =
     subst (λ (j : ℕ). deeperRun E t fuel (word t j 7) (word t j 5) ≡ listedUnder p) (p .row)
-      ((λ i. deeperRun E t fuel (depth-at E s fits k p i) ((next-at E s fits k p ∙ ap (firstOf E) (after-is k (s .forest) p)) i))
-       ∙ deeper-run E (rows E (s .m)) t fuel (p .entry .row) (depthOf 0 (p .around)) (listedUnder p) (listedPast p) (fits .room)
-           (subst (λ (zs : List Listed). All (λ j. j < rows E (s .m)) (rowsIn zs)) (after-is k (s .forest) p) (all-after (λ j. j < rows E (s .m)) (listedBefore p) (listedOf p) (listedAfter p) (below-at E s fits k p)))
-           (subst (Holds E (rowAt t) (p .entry .row)) (after-is k (s .forest) p) (holds-after E (rowAt t) (E .none) (listedBefore p) (listedOf p) (listedAfter p) (written-at E s fits k p .holds)))
-           (under-deep k (s .forest) p) (past-low k (s .forest) p) e)
+    ((λ i. deeperRun E t fuel (depth-at E s fits k p i) ((next-at E s fits k p ∙ ap (firstOf E) (after-is k (s .forest) p)) i))
+    ∙ deeper-run E (rows E (s .m)) t fuel (p .entry .row) (depthOf 0 (p .around)) (listedUnder p) (listedPast p) (fits .room)
+    (subst (λ (zs : List Listed). All (λ j. j < rows E (s .m)) (rowsIn zs)) (after-is k (s .forest) p) (all-after (λ j. j < rows E (s .m)) (listedBefore p) (listedOf p) (listedAfter p) (below-at E s fits k p)))
+    (subst (Holds E (rowAt t) (p .entry .row)) (after-is k (s .forest) p) (holds-after E (rowAt t) (E .none) (listedBefore p) (listedOf p) (listedAfter p) (written-at E s fits k p .holds)))
+    (under-deep k (s .forest) p) (past-low k (s .forest) p) e)
   where
     t : List ℕ
     t = T E s fits k p

@@ -1,0 +1,46 @@
+// The core's face: boot, a request, and the six words of an answer.
+use model::Answer;
+use model::Failure;
+ghost use mathlib.Core.Path.{_≡_};
+ghost use mathlib.Core.List.{_∷_};
+ghost use Rattle.model.specs.Request as spec;
+
+// A lookup failure's four words.
+fn failure_words(failure: Failure) -> [u32; 4]
+    ensures { λ r. ⌜ r ≡ spec.ofFailure failure ⌝ }
+{
+    match failure {
+        Failure::InvalidRoot => [1, 0, 0, 0],
+        Failure::Missing { bits } => [2, bits, 0, 0],
+        Failure::DepthMismatch { bits, resolved } => [3, bits, resolved, 0],
+        Failure::GuardMismatch { bits, guard, size } => [4, bits, guard, size],
+    }
+}
+
+// Six words of which the last four are a failure's.
+fn with_failure(number: u32, detail: u32, failure: Failure) -> [u32; 6]
+    ensures { λ r. ⌜ r ≡ number ∷ detail ∷ spec.ofFailure failure ⌝ }
+{
+    let w = failure_words(failure);
+    [number, detail, w[0], w[1], w[2], w[3]]
+}
+
+// An answer's six words.
+pub fn answer_words(answer: Answer) -> [u32; 6]
+    ensures { λ r. ⌜ r ≡ spec.sixWords answer ⌝ }
+{
+    match answer {
+        Answer::Success { count } => [0, count, 0, 0, 0, 0],
+        Answer::InvalidArgument { argument } => [1, argument, 0, 0, 0, 0],
+        Answer::InvalidCapability => [2, 0, 0, 0, 0, 0],
+        Answer::IllegalOperation => [3, 0, 0, 0, 0, 0],
+        Answer::RangeError { least, greatest } => [4, least, greatest, 0, 0, 0],
+        Answer::FailedLookup { source, failure } => with_failure(6, source as u32, failure),
+        Answer::TruncatedMessage => [7, 0, 0, 0, 0, 0],
+        Answer::DeleteFirst => [8, 0, 0, 0, 0, 0],
+        Answer::RevokeFirst => [9, 0, 0, 0, 0, 0],
+        Answer::NotEnoughMemory { free } => [10, free, 0, 0, 0, 0],
+        Answer::CapFault { word, failure } => with_failure(64, word, failure),
+        Answer::BadTables => [65, 0, 0, 0, 0, 0],
+    }
+}

@@ -1,0 +1,5 @@
+mod Shift
+mod Levels
+pub mod WellFormed
+pub mod InTable
+mod Finding
