@@ -1,14 +1,14 @@
 -- Lists of numbers without repeats, and how many of them there can be.
 use Prim.Native.Nat.{ℕ, zero, suc, _+_, _≤_, _<_}
-use mathlib.Core.Path.{_≡_, refl, sym, ap, ap₂, _∙_}
+use mathlib.Core.Path.{_≡_, refl, sym, ap, ap₂, _∙_, subst}
 use mathlib.Core.Bool.{Bool, true, false, cond, not, _&&_}
-use mathlib.Core.List.{List, [], _∷_, _++_}
+use mathlib.Core.List.{List, [], _∷_, _++_, List·Memᴰ·head, List·Memᴰ·tail}
 use native.Mathlib.Omega.{arith}
 use lib.Dec.{ltb, eqb}
 use lib.ListN.{length}
 use borrow.Author.Tests.{eq-eqb, ne-eqb, ltb-true, ltb-false, eqb-true, eqb-false}
 use Rattle.model.specs.Lists.{count}
-use Rattle.model.proofs.Members.{All, all-both}
+use Rattle.model.proofs.Members.{All, all-both, all-append, all-from, Has}
 
 -- ---- two numbers
 
@@ -32,6 +32,13 @@ Fresh k ks = All (λ j. j ≡ k → ⊥) ks
 abbrev pub Distinct : List ℕ → Type 0
 Distinct [] = Unit {0}
 Distinct (k ∷ ks) = Fresh k ks × Distinct ks
+
+pub distinct-append : (xs ys : List ℕ) → Distinct xs → Distinct ys → ((k : ℕ) → Has k xs → Has k ys → ⊥) → Distinct (xs ++ ys)
+distinct-append [] ys p q h = q
+distinct-append (x ∷ xs) ys p q h =
+    ( all-append (λ j. j ≡ x → ⊥) xs ys (p .0) (all-from (λ j. j ≡ x → ⊥) ys (λ j m e. h x (List·Memᴰ·head refl) (subst (λ k. Has k ys) e m)))
+    , distinct-append xs ys (p .1) q (λ k m. h k (List·Memᴰ·tail m))
+    )
 
 -- ---- the pigeonhole
 

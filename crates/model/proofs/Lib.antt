@@ -5,3 +5,4 @@ pub mod State
 pub mod Order
 pub mod Words
 pub mod Removal
+pub mod Kept

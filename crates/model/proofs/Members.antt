@@ -33,6 +33,10 @@ module _ {A : Type 0} where
   all-mem P p (List·Memᴰ·head e) = subst P (sym e) (p .0)
   all-mem P p (List·Memᴰ·tail m) = all-mem P (p .1) m
 
+  pub all-from : (P : A → Type 0) (xs : List A) → ((x : A) → List·Memᴰ x xs → P x) → All P xs
+  all-from P [] h = tt
+  all-from P (x ∷ xs) h = (h x (List·Memᴰ·head refl), all-from P xs (λ y m. h y (List·Memᴰ·tail m)))
+
 -- ---- members
 
 abbrev pub Has : {A : Type 0} → A → List A → Type 0

@@ -1,0 +1,11 @@
+pub mod Powers
+pub mod Figures
+pub mod Forests
+pub mod Objects
+pub mod Allowed
+pub mod Families
+pub mod Rounds
+pub mod Removal
+pub mod Edits
+pub mod Rules
+pub mod Staying
