@@ -35,10 +35,10 @@ Distinct (k ∷ ks) = Fresh k ks × Distinct ks
 
 pub distinct-append : (xs ys : List ℕ) → Distinct xs → Distinct ys → ((k : ℕ) → Has k xs → Has k ys → ⊥) → Distinct (xs ++ ys)
 distinct-append [] ys p q h = q
-distinct-append (x ∷ xs) ys p q h =
-    ( all-append (λ j. j ≡ x → ⊥) xs ys (p .0) (all-from (λ j. j ≡ x → ⊥) ys (λ j m e. h x (List·Memᴰ·head refl) (subst (λ k. Has k ys) e m)))
-    , distinct-append xs ys (p .1) q (λ k m. h k (List·Memᴰ·tail m))
-    )
+distinct-append (x ∷ xs) ys p q h = (
+  all-append (λ j. j ≡ x → ⊥) xs ys (p .0) (all-from (λ j. j ≡ x → ⊥) ys (λ j m e. h x (List·Memᴰ·head refl) (subst (λ k. Has k ys) e m))),
+  distinct-append xs ys (p .1) q (λ k m. h k (List·Memᴰ·tail m)),
+)
 
 -- ---- the pigeonhole
 

@@ -124,7 +124,7 @@ slot-bound {E} sane m c k a h =
     either (ltb k (2 ^ (m - E .slot)))
     (λ t. ltb-true k (2 ^ (m - E .slot)) t)
     (λ f. let z : suc (2 ^ (m - E .slot)) * 2 ^ E .slot ≤ (c .address .0 / 2 ^ E .slot + 2 ^ c .size) * 2 ^ E .slot =
-                mul-le-mul-right (2 ^ E .slot) (let g = ltb-false k (2 ^ (m - E .slot)) f in omega arith) in
-          let q = suc-mul (2 ^ (m - E .slot)) (2 ^ E .slot) in
-          let o : 0 < 2 ^ E .slot = pow-pos (E .slot) in
-          absurd (omega arith))
+    mul-le-mul-right (2 ^ E .slot) (let g = ltb-false k (2 ^ (m - E .slot)) f in omega arith) in
+    let q = suc-mul (2 ^ (m - E .slot)) (2 ^ E .slot) in
+    let o : 0 < 2 ^ E .slot = pow-pos (E .slot) in
+    absurd (omega arith))

@@ -14,13 +14,13 @@ use Rattle.model.proofs.Members.{Has, has-keep, has-map, keep-has, keep
 
 -- `next set` lists the members x of xs with P set x, by their numbers r x; a member whose number is in the set is one of them
 module _ {A : Type 0} (r : A → ℕ) (P : List ℕ → A → Bool) (xs : List A) (next : List ℕ → List ℕ)
-  (is : (set : List ℕ) → next set ≡ map r (keep (P set) xs)) where
+    (is : (set : List ℕ) → next set ≡ map r (keep (P set) xs)) where
   next-has : (set : List ℕ) {x : A} → Has x xs → P set x ≡ true → Has (r x) (next set)
   next-has set m t = rw (is set) (map-has r (has-keep (P set) m t))
 
   -- every round stays inside a set in which one that starts in it ends
   pub rounds-inside : (C : ℕ → Type 0) → ((set : List ℕ) → ((k : ℕ) → Has k set → C k) → (x : A) → Has x xs → P set x ≡ true → C (r x))
-    → (n : ℕ) (set : List ℕ) → ((k : ℕ) → Has k set → C k) → (k : ℕ) → Has k (repeat n next set) → C k
+      → (n : ℕ) (set : List ℕ) → ((k : ℕ) → Has k set → C k) → (k : ℕ) → Has k (repeat n next set) → C k
   unfolding repeat
   rounds-inside C h zero set s = s
   rounds-inside C h (suc n) set s =
@@ -63,8 +63,8 @@ module _ {A : Type 0} (r : A → ℕ) (P : List ℕ → A → Bool) (xs : List A
         go ih =
             either (leb (length (next (next set))) (length (next set)))
             (λ t. let e : next (next set) ≡ next set = still set (leb-true (length (next (next set))) (length (next set)) t) in
-                  let q : repeat n next (next (next set)) ≡ next set = ap (repeat n next) e ∙ repeat-fix n (next set) e in
-                  ap next q ∙ e ∙ sym q)
+            let q : repeat n next (next (next set)) ≡ next set = ap (repeat n next) e ∙ repeat-fix n (next set) e in
+            ap next q ∙ e ∙ sym q)
             (λ f. let b : length (next set) < length (next (next set)) = leb-false (length (next (next set))) (length (next set)) f in ih (omega arith))
 
     -- after one round more than there are members

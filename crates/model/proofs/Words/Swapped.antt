@@ -145,11 +145,11 @@ module _ (a b : ℕ) (apart : a ≡ b → ⊥) (c d : Cap) where
         → h (turned a b c d x .entry .row) ≡ cells (turned a b c d x) (swapped a b p) (swapped a b q))
         → Holds E h (swapped a b before) (map (turned a b c d) xs)
     holds-turned g h before [] hold each = tt
-    holds-turned g h before (x ∷ xs) hold each =
-        ( each x before (firstOf E xs) (List·Memᴰ·head refl) (hold .0) ∙ ap (cells (turned a b c d x) (swapped a b before)) (sym (first-turned xs))
-        , subst (λ (k : ℕ). Holds E h k (map (turned a b c d) xs)) (sym (exchanged-row (x .entry)))
-          (holds-turned g h (x .entry .row) xs (hold .1) (λ y p q m. each y p q (List·Memᴰ·tail m)))
-        )
+    holds-turned g h before (x ∷ xs) hold each = (
+      each x before (firstOf E xs) (List·Memᴰ·head refl) (hold .0) ∙ ap (cells (turned a b c d x) (swapped a b before)) (sym (first-turned xs)),
+      subst (λ (k : ℕ). Holds E h k (map (turned a b c d) xs)) (sym (exchanged-row (x .entry)))
+          (holds-turned g h (x .entry .row) xs (hold .1) (λ y p q m. each y p q (List·Memᴰ·tail m))),
+    )
 
     fresh-turned : (k : ℕ) (xs : List Listed) → Fresh k (rowsIn (map (turned a b c d) xs)) → Fresh (swapped a b k) (rowsIn xs)
     fresh-turned k [] f = tt
@@ -162,20 +162,20 @@ module _ (a b : ℕ) (apart : a ≡ b → ⊥) (c d : Cap) where
 
     pub distinct-turned : (xs : List Listed) → Distinct (rowsIn xs) → Distinct (rowsIn (map (turned a b c d) xs))
     distinct-turned [] dis = tt
-    distinct-turned (x ∷ xs) dis =
-        ( turned-fresh (exchanged a b c d (x .entry) .row) xs
-          (subst (λ (k : ℕ). Fresh k (rowsIn xs)) (sym (ap (swapped a b) (exchanged-row (x .entry)) ∙ swapped-twice a b (x .entry .row) apart)) (dis .0))
-        , distinct-turned xs (dis .1)
-        )
+    distinct-turned (x ∷ xs) dis = (
+      turned-fresh (exchanged a b c d (x .entry) .row) xs
+          (subst (λ (k : ℕ). Fresh k (rowsIn xs)) (sym (ap (swapped a b) (exchanged-row (x .entry)) ∙ swapped-twice a b (x .entry .row) apart)) (dis .0)),
+      distinct-turned xs (dis .1),
+    )
 
     pub below-turned : (xs : List Listed) → All (λ k. k < n) (rowsIn xs) → All (λ k. k < n) (rowsIn (map (turned a b c d) xs))
     unfolding swapped
     below-turned [] low = tt
-    below-turned (x ∷ xs) low =
-        ( subst (λ (k : ℕ). k < n) (sym (exchanged-row (x .entry)))
-          (either (eqb (x .entry .row) a) (λ t. rw t lb) (λ f. rw f (either (eqb (x .entry .row) b) (λ t. rw t la) (λ g. rw g (low .0)))))
-        , below-turned xs (low .1)
-        )
+    below-turned (x ∷ xs) low = (
+      subst (λ (k : ℕ). k < n) (sym (exchanged-row (x .entry)))
+          (either (eqb (x .entry .row) a) (λ t. rw t lb) (λ f. rw f (either (eqb (x .entry .row) b) (λ t. rw t la) (λ g. rw g (low .0))))),
+      below-turned xs (low .1),
+    )
 
     module _ (t : List ℕ) (xs : List Listed) (low : All (λ k. k < n) (rowsIn xs)) (dis : Distinct (rowsIn xs)) (w : Written E n t xs) (ha : Has a (rowsIn xs)) (hb : Has b (rowsIn xs)) where
       -- the links of the table, each with its way back
