@@ -1,5 +1,4 @@
-mod Shift
 mod Levels
 pub mod WellFormed
 pub mod InTable
-mod Finding
+pub mod Finding

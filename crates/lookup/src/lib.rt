@@ -5,8 +5,10 @@ use model::Failure;
 use model::Looked;
 use model::Place;
 use model::Row;
+use table::CNODE;
 use table::cap_at;
 use table::row_of;
+use table::size::pow2;
 ghost use mathlib.Core.Path.{_≡_};
 ghost use mathlib.Core.Bool.{true};
 ghost use Prim.Native.Nat.{_+_, _*_, _≤_};
@@ -20,15 +22,14 @@ ghost use Rattle.model.specs.Request.{orFault};
 ghost use Rattle.lookup.specs.Finds.{Finds};
 ghost use Rattle.lookup.specs.Ready.{Ready, Usable};
 
-const CNODE: u32 = 5;
-
 // Of the low `left` bits of an address, the top `n`.
 pub fn field(address: u32, left: u32, n: u32) -> u32
     requires { ⌜ (n ≤ left) × (left ≤ 32) ⌝ }
     ensures { λ r. ⌜ r ≡ spec.field address left n ⌝ }
 {
     let low = address as u64 >> (left - n);
-    (low & ((1u64 << n) - 1)) as u32
+    let mask = pow2(n) - 1;
+    (low & mask) as u32
 }
 
 // With `left` bits left, a CNode's guard is longer than they are or differs from the next of them.
@@ -69,7 +70,8 @@ pub fn lookup(t: &[u32], root: Cap, address: u32, depth: u32) -> Looked
             });
         }
         let first = row_of(node.address);
-        let row = first.0 + field(address, left - node.fourth, node.size);
+        let unguarded = left - node.fourth;
+        let row = first.0 + field(address, unguarded, node.size);
         let slot = Row(row);
         if left == taken {
             return Looked::Slot(slot);

@@ -45,7 +45,7 @@ distinct-append (x ∷ xs) ys p q h = (
 but : (ℕ → Bool) → ℕ → ℕ → Bool
 but p k j = p j && not (eqb j k)
 
-count-same : (p q : ℕ → Bool) (n : ℕ) → ((j : ℕ) → j < n → p j ≡ q j) → count p n ≡ count q n
+pub count-same : (p q : ℕ → Bool) (n : ℕ) → ((j : ℕ) → j < n → p j ≡ q j) → count p n ≡ count q n
 unfolding count
 count-same p q zero h = refl
 count-same p q (suc n) h = ap₂ (λ (b : Bool) (c : ℕ). cond b 1 0 + c) (h n (omega arith)) (count-same p q n (λ j l. h j (omega arith)))
@@ -92,7 +92,7 @@ listed-all ks p n d a e k h f = go (p k) refl
     go true t = absurd (omega (arith, pigeons (k ∷ ks) p n (f, d) ((h, t), a)))
     go false t = refl
 
-count-none : (p : ℕ → Bool) (n : ℕ) → ((k : ℕ) → k < n → p k ≡ false) → count p n ≡ 0
+pub count-none : (p : ℕ → Bool) (n : ℕ) → ((k : ℕ) → k < n → p k ≡ false) → count p n ≡ 0
 unfolding count
 count-none p zero h = refl
 count-none p (suc n) h = rw (h n (omega arith), count-none p n (λ k l. h k (omega arith)))
@@ -110,3 +110,32 @@ count-listed (k ∷ ks) p n d a f =
         by : (b : Bool) → eqb k j ≡ b → but p k j ≡ false
         by true e = ap (but p k) (sym (eqb-true k j e)) ∙ but-same p k
         by false e = but-other p k j (λ q. eqb-false k j e (sym q)) ∙ f j h (eqb-false k j e, fr)
+
+-- ---- tests that differ at one number
+
+pub count-less : (p q : ℕ → Bool) (k n : ℕ) → k < n → p k ≡ true → q k ≡ false → ((j : ℕ) → j < n → (j ≡ k → ⊥) → p j ≡ q j) → count p n ≡ suc (count q n)
+count-less p q k n h t f other = count-but p k n h t ∙ ap suc (count-same (but p k) q n go)
+  where
+    go : (j : ℕ) → j < n → but p k j ≡ q j
+    go j l = by (eqb j k) refl
+      where
+        by : (b : Bool) → eqb j k ≡ b → but p k j ≡ q j
+        by true e = let s = eqb-true j k e in ap (but p k) s ∙ but-same p k ∙ sym f ∙ ap q (sym s)
+        by false e = but-other p k j (eqb-false j k e) ∙ other j l (eqb-false j k e)
+
+pub count-most : (p : ℕ → Bool) (n : ℕ) → count p n ≤ n
+unfolding count
+count-most p zero = omega arith
+count-most p (suc n) = go (p n) (count-most p n)
+  where
+    go : (b : Bool) → count p n ≤ n → cond b 1 0 + count p n ≤ suc n
+    go true ih = omega arith
+    go false ih = omega arith
+
+-- where none passes, each fails
+pub count-zero : (p : ℕ → Bool) (k n : ℕ) → count p n ≡ 0 → k < n → p k ≡ false
+count-zero p k n z h = go (p k) refl
+  where
+    go : (b : Bool) → p k ≡ b → b ≡ false
+    go true t = absurd (omega (arith, count-but p k n h t))
+    go false t = refl

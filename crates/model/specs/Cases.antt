@@ -15,7 +15,7 @@ use Rattle.model.specs.Rules.{mInRange, greatestR, rInRange, lengthsFit,
 use Rattle.model.specs.Lookup.{field, guardMissed, taken, picked, descend, lookup}
 use Rattle.model.specs.Removal.{lost, follows, grow, removed}
 use Rattle.model.specs.Operations.{slotOf, find, vacant, present, withThird, withFourth, masked, guardSizeIn, guardIn, withGuard, datumBarred, given, withDatum, change, full, fresh, copy, moved, move, rotated, rotate, remove, delete, descendants, revoke, sizeBarred, node, anyTaken, start, alignUp, newCap, made, allotted, allot, retype}
-use Rattle.model.specs.Request.{sixWords, concluded, untypeds, booted, boot, operationOf, invokes, wordsOf, orFault, rowNamed, place, perform, served, applied, carriedOut, request, Outcome}
+use Rattle.model.specs.Request.{sixWords, concluded, untypeds, booted, boot, operationOf, orFault, rowNamed, place, perform, served, applied, carriedOut, request, Outcome}
 use Rattle.model.specs.Estate.{brings, rowsBelow, widen, estate}
 
 -- ---- what a case asks and shows
@@ -182,5 +182,5 @@ cases =
 
 -- Every case is as the document says.
 pub as-the-document-says : all (λ c. right begun (c .asked) (c .shown)) cases ≡ true
-unfolding cases begun right holds allTrue any all keep member shareNone repeat count within isEmpty isUntyped isCNode hasBadge rightsOf exponent bytes limit disjoint sameObject apart firstRow slots houses join entries roots below isTree hasChildren capIn capAt leaves put edit graft without _>>=_ _>>_ refuse rows capOf follow grown later read listing firstOf zeroRow rowOf rowsFrom write mInRange greatestR rInRange lengthsFit controlAllowed sizeAllowed placeAllowed thirdAllowed fourthAllowed capAllowed zeros rowAllowed rowsAllowed linkAllowed listed occupied tableAllowed housed pairwise insideBelow childrenAllowed familiesAllowed forestAllowed wellFormed field guardMissed taken picked descend lookup lost follows grow removed slotOf find vacant present withThird withFourth masked guardSizeIn guardIn withGuard datumBarred given withDatum change full fresh copy moved move rotated rotate remove delete descendants revoke sizeBarred node anyTaken start alignUp newCap made allotted allot retype concluded untypeds booted boot operationOf invokes wordsOf orFault rowNamed place perform served applied carriedOut request brings rowsBelow widen estate
+unfolding cases begun right holds allTrue any all keep member shareNone repeat count within isEmpty isUntyped isCNode hasBadge rightsOf exponent bytes limit disjoint sameObject apart firstRow slots houses join entries roots below isTree hasChildren capIn capAt leaves put edit graft without _>>=_ _>>_ refuse rows capOf follow grown later read listing firstOf zeroRow rowOf rowsFrom write mInRange greatestR rInRange lengthsFit controlAllowed sizeAllowed placeAllowed thirdAllowed fourthAllowed capAllowed zeros rowAllowed rowsAllowed linkAllowed listed occupied tableAllowed housed pairwise insideBelow childrenAllowed familiesAllowed forestAllowed wellFormed field guardMissed taken picked descend lookup lost follows grow removed slotOf find vacant present withThird withFourth masked guardSizeIn guardIn withGuard datumBarred given withDatum change full fresh copy moved move rotated rotate remove delete descendants revoke sizeBarred node anyTaken start alignUp newCap made allotted allot retype concluded untypeds booted boot operationOf orFault rowNamed place perform served applied carriedOut request brings rowsBelow widen estate
 as-the-document-says = refl

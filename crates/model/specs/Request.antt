@@ -104,7 +104,7 @@ operationOf n =
     Unknown)))))))
 
 -- Retype is Untyped's, the rest CNode's
-unfoldable pub invokes : Cap → Operation → Bool
+abbrev pub invokes : Cap → Operation → Bool
 invokes c Copy = isCNode c
 invokes c Mint = isCNode c
 invokes c Move = isCNode c
@@ -116,7 +116,7 @@ invokes c Retype = isUntyped c
 invokes c Unknown = false
 
 -- the words of a message up to the operation's last
-unfoldable pub wordsOf : Operation → ℕ
+abbrev pub wordsOf : Operation → ℕ
 wordsOf Copy = 8
 wordsOf Mint = 9
 wordsOf Move = 7

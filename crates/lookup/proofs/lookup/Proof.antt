@@ -84,8 +84,8 @@ returns-4 c = ends (head (c .before) .loop .inv) (too-deep _ _ _ _ _ (met (c .be
 row-of-requires : tie.Need-row-of-requires Inv-loop μ-loop
 row-of-requires c κs = search needs
 
-sub-field : tie.Need-sub-field Inv-loop μ-loop
-sub-field c = search needs
+sub-unguarded : tie.Need-sub-unguarded Inv-loop μ-loop
+sub-unguarded c = search needs
 
 field-requires : tie.Need-field-requires Inv-loop μ-loop
 field-requires c κs = search needs
@@ -173,7 +173,7 @@ lookup-spec =
     returns-3
     returns-4
     row-of-requires
-    sub-field
+    sub-unguarded
     field-requires
     add-row
     returns-5

@@ -1,26 +1,26 @@
--- The tables of a state after an entry of its tree is given another row, as Move does.
+-- The tables of a state after an entry of its tree is given another row, as Move does: the new row is linked after the old, which is unlinked.
 use Prim.Native.Nat.{ℕ, _<_}
 use mathlib.Core.Path.{_≡_, refl, sym, ap, ap₂, _∙_, subst}
 use mathlib.Core.Bool.{cond}
 use mathlib.Core.List.{List, [], _∷_, _++_}
 use lib.Dec.{eqb}
 use lib.ListN.{length, getD, set}
+use borrow.Author.Tests.{eq-eqb}
+use Rattle.model.specs.declared.Cap.{Cap}
+use Rattle.model.specs.Edition.{Edition}
+use Rattle.model.specs.Tree.{edit}
+use Rattle.model.specs.Tables.{Listed, State, Tables, rows, word, firstOf, rowsFrom, listing, write}
+use Rattle.model.specs.Stores.{linked, unlinked}
+use Rattle.model.specs.Operations.{moved}
 use Rattle.model.proofs.Members.{All}
 use Rattle.model.proofs.Distinct.{Fresh}
-use Rattle.model.proofs.Words.Rows.{rowsIn, written-is}
 use Rattle.model.proofs.State.{rowsOf, Fits}
+use Rattle.model.proofs.Words.Rows.{rowsIn, written-is}
 use Rattle.model.proofs.Words.Around.{depthOf, At, moved-only}
 use Rattle.model.proofs.Words.Edits.{first-same}
 use Rattle.model.proofs.Words.Linking.{lastOf}
 use Rattle.model.proofs.Words.Runs.{distinct-put, all-put, distinct-drop, all-drop, snoc, move-written}
 use Rattle.model.proofs.Words.Edited.{listedOf, listedBefore, listedAfter, listing-at, listing-stays, T, written-at, rows-at, below-at, distinct-at, next-at, last-at, depth-at, shorter, first-without, fits-list}
-use borrow.Author.Tests.{eq-eqb}
-use Rattle.model.specs.Edition.{Edition}
-use Rattle.model.specs.declared.Cap.{Cap}
-use Rattle.model.specs.Operations.{moved}
-use Rattle.model.specs.Tree.{edit}
-use Rattle.model.specs.Stores.{linked, unlinked}
-use Rattle.model.specs.Tables.{Listed, State, Tables, rows, word, firstOf, rowsFrom, listing, write}
 
 -- row `to` is linked after row `from` with c and the same depth, and row `from` unlinked
 abbrev pub movedTables : Edition → Tables → (from to : ℕ) → Cap → Tables

@@ -1,0 +1,2 @@
+mod Shift
+mod Children
