@@ -1,5 +1,5 @@
 -- An entry step by step: what is known of the row that it stands in, and each way out.
-use Prim.Native.Nat.{ℕ, _+_, _-_, _*_, _/_, _%_, _^_, _≤_, _<_}
+use Prim.Native.Nat.{ℕ, _+_, _-_, _/_, _^_, _≤_, _<_}
 use mathlib.Core.Path.{_≡_, refl, sym, ap, _∙_, subst}
 use mathlib.Core.Bool.{Bool, true, false, cond}
 use mathlib.Core.List.{List}
@@ -7,10 +7,10 @@ use native.Mathlib.Omega.{arith}
 use lib.Dec.{eqb}
 use lib.ListN.{getD}
 use lib.Pow.{pow-mono}
-use borrow.Author.Tests.{eq-eqb, ne-eqb, eqb-false}
+use borrow.Author.Tests.{eq-eqb, ne-eqb}
 use Rattle.model.specs.declared.Cap.{Cap}
 use Rattle.model.specs.Edition.{edition32}
-use Rattle.model.specs.Cap.{isEmpty, isUntyped, exponent, bytes, limit, sameObject}
+use Rattle.model.specs.Cap.{isUntyped, exponent, bytes, limit, sameObject}
 use Rattle.model.specs.Tables.{rows, capOf}
 use Rattle.model.specs.Rules.{mInRange, capAllowed, insideBelow}
 use Rattle.model.proofs.Booleans.{within-parts}
@@ -18,7 +18,6 @@ use Rattle.model.proofs.Kept.Allowed.{limit-of}
 use Rattle.model.proofs.Kept.Figures.{sane32}
 use Rattle.model.proofs.Kept.Powers.{exponent-le}
 use Rattle.model.proofs.Words.Chain.{rows-at, row-taken}
-use Rattle.rules_row.proofs.Shift.{one-shl}
 use Rattle.rules.specs.Owners.{firstCell, cells, ownedBy, took, kept, broken, capUp, beside, enter}
 use Rattle.rules.specs.Checked.{Scanned, Occupied}
 use Rattle.rules.proofs.Cells.{Celled}
@@ -40,29 +39,20 @@ module _ (m : ℕ) (t : List ℕ) (k : ℕ) (at : Occupied edition32 m t k) wher
       omega (arith, limit-of edition32 m (capOf t k) allowed, pow-mono {i = m} {j = 16} (m-most m (at .scanned .mRange)))
 
   module _ (c : Cap) (isK : c ≡ capOf t k) where
-    pub some-kind : 1 ≤ c .kind
-    unfolding isEmpty
-    some-kind = let n : c .kind ≡ 0 → ⊥ = rw isK (eqb-false (capOf t k .kind) 0 (at .filled)) in omega arith
+    power : 2 ^ exponent edition32 (c .kind - 1) (c .size) ≤ 65536
+    unfolding bytes
+    power = rw isK (omega (arith, limited))
 
-    module _ (e : ℕ) (power : e ≡ exponent edition32 (c .kind - 1) (c .size)) where
-      is-power : bytes edition32 c ≡ 2 ^ e
-      unfolding bytes
-      is-power = rw power
+    pub small : exponent edition32 (c .kind - 1) (c .size) < 64
+    small = omega (arith, exponent-le 16 (exponent edition32 (c .kind - 1) (c .size)) power)
 
-      pub small : e ≤ 16
-      small =
-          let l : c .address .0 + 2 ^ e ≤ 65536 = rw (← isK, is-power) at limited in
-          exponent-le 16 e (omega arith)
+    pub most-bytes : (n : ℕ) → n ≡ bytes edition32 c → n ≤ 65536
+    unfolding bytes
+    most-bytes n e = rw e power
 
-      pub as-bytes : (1 * 2 ^ e) % 2 ^ 64 ≡ bytes edition32 c
-      as-bytes = one-shl e (omega (arith, small)) ∙ sym is-power
-
-      pub most-bytes : (1 * 2 ^ e) % 2 ^ 64 ≤ 65536
-      most-bytes = rw (one-shl e (omega (arith, small))) (pow-mono {i = e} {j = 16} small)
-
-      pub as-cells : ((1 * 2 ^ e) % 2 ^ 64) / 16 ≡ cells edition32 c
-      unfolding cells
-      as-cells = ap (λ (x : ℕ). x / 16) as-bytes
+    pub as-cells : (n : ℕ) → n ≡ bytes edition32 c → n / 16 ≡ cells edition32 c
+    unfolding cells
+    as-cells n e = ap (λ (x : ℕ). x / 16) e
 
     pub in-array : firstCell c + cells edition32 c ≤ 4096
     in-array =

@@ -1,12 +1,9 @@
 -- The tests on one or two capabilities, one after the other as the code makes them.
-use Prim.Native.Nat.{ℕ, _+_, _*_, _%_, _^_, _≤_, _<_}
+use Prim.Native.Nat.{ℕ, _+_, _^_, _≤_, _<_}
 use mathlib.Core.Path.{_≡_, refl, sym, ap, _∙_}
 use mathlib.Core.Bool.{Bool, true, false, not, _&&_}
 use mathlib.Core.List.{List, [], _∷_}
-use native.Mathlib.Nat.{one-mul}
-use native.Mathlib.Omega.{arith}
-use lib.Dec.{leb, ltb, eqb, lit<}
-use lib.Pow.{shl-exact}
+use lib.Dec.{leb, ltb, eqb}
 use borrow.Author.Tests.{eq-eqb, ne-eqb, le-leb, lt-leb, le-ltb, lt-ltb}
 use Rattle.model.specs.declared.Cap.{Cap}
 use Rattle.model.specs.Lists.{allTrue}
@@ -15,10 +12,6 @@ use Rattle.model.specs.Cap.{isUntyped, bytes, limit, sameObject}
 use Rattle.model.specs.Tables.{rows, word, capOf}
 use Rattle.model.specs.Rules.{insideBelow}
 use Rattle.rules.specs.Owners.{beside, memory, capUp}
-
--- 2 ^ k made by a shift in 32 bits
-pub one-shl : (k : ℕ) → k ≤ 16 → (1 * 2 ^ k) % 2 ^ 32 ≡ 2 ^ k
-one-shl k h = shl-exact {a = 1} 1 k 32 (lit< tt) (omega arith) ∙ one-mul (2 ^ k)
 
 -- ---- the same object
 
@@ -72,10 +65,9 @@ module _ (E : Edition) (m : ℕ) (t : List ℕ) (k by : ℕ) where
 -- ---- an owner's capability
 
 module _ (m : ℕ) (t : List ℕ) (up : ℕ) where
-  pub nobody's : m ≤ 16 → up ≡ 4294967295
-      → record { kind = 1; address = record { 0 = 0 }; size = m; third = (1 * 2 ^ m) % 2 ^ 32; fourth = 0 } ≡ capUp edition32 m t up
+  pub nobody's : (n : ℕ) → n ≡ 2 ^ m → up ≡ 4294967295 → record { kind = 1; address = record { 0 = 0 }; size = m; third = n; fourth = 0 } ≡ capUp edition32 m t up
   unfolding capUp memory
-  nobody's h e = rw (eq-eqb up 4294967295 e, one-shl m h)
+  nobody's n b e = rw (eq-eqb up 4294967295 e, b)
 
   pub somebody's : (up ≡ 4294967295 → ⊥) → capOf t up ≡ capUp edition32 m t up
   unfolding capUp

@@ -2,10 +2,11 @@
 use model::Address;
 use model::Cap;
 use model::Row;
-use model::exponent;
 use rules_row::rows_allowed;
 use table::cap_at;
 use table::row_of;
+use table::size::bytes_of;
+use table::size::pow2;
 use table::word;
 ghost use mathlib.Core.Path.{_≡_};
 ghost use mathlib.Core.Bool.{true, false};
@@ -29,7 +30,7 @@ fn rows_of(m: u32) -> u32
     requires { ⌜ rule.mInRange edition32 m ≡ true ⌝ }
     ensures { λ r. ⌜ r ≡ tables.rows edition32 m ⌝ }
 {
-    1 << (m - 4)
+    pow2(m - 4) as u32
 }
 
 // The control words are in Boot's ranges, and the table has its length.
@@ -151,7 +152,7 @@ fn cap_up(t: &[u32], m: u32, up: u32) -> Cap
             kind: UNTYPED,
             address: Address(0),
             size: m,
-            third: 1 << m,
+            third: pow2(m) as u32,
             fourth: 0,
         };
     }
@@ -186,8 +187,7 @@ fn enter(t: &[u32], m: u32, up: u32, k: u32, owner: &mut [u32; 4096]) -> bool
     if parent.kind != UNTYPED {
         return same_object(parent, c);
     }
-    let power = exponent(c.kind - 1, c.size);
-    let bytes = 1u64 << power;
+    let bytes = bytes_of(c);
     if !inside_below(parent, c, bytes) {
         return false;
     }

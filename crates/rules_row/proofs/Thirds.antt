@@ -13,13 +13,11 @@ use Rattle.model.specs.Edition.{edition32}
 use Rattle.model.specs.Cap.{isUntyped, isCNode, hasBadge, exponent, bytes}
 use Rattle.model.specs.Rules.{thirdAllowed}
 use Rattle.model.proofs.Booleans.{either}
-use Rattle.rules_row.proofs.Shift.{one-shl}
-use Rattle.rules_row.proofs.Places.{shifted}
 
 module _ (c : Cap) where
-  pub watermark : c .kind ≡ 1 → c .size ≤ 16 → bitAnd (c .third) 15 ≡ 0 → leb (c .third) (shifted (c .size)) ≡ thirdAllowed edition32 c
+  pub watermark : c .kind ≡ 1 → bitAnd (c .third) 15 ≡ 0 → (n : ℕ) → n ≡ 2 ^ c .size → leb (c .third) n ≡ thirdAllowed edition32 c
   unfolding thirdAllowed isUntyped bytes exponent
-  watermark k s h = let h′ : c .third % 16 ≡ 0 = rw (and-mask (c .third) 4) at h in rw (one-shl (c .size) (omega arith), k, h′, zero-add)
+  watermark k h n e = let h′ : c .third % 16 ≡ 0 = rw (and-mask (c .third) 4) at h in rw (e, k, h′, zero-add)
 
   pub watermark-off : c .kind ≡ 1 → (bitAnd (c .third) 15 ≡ 0 → ⊥) → eqb (bitAnd (c .third) 15) 0 ≡ thirdAllowed edition32 c
   unfolding thirdAllowed isUntyped
@@ -27,9 +25,9 @@ module _ (c : Cap) where
       let h′ : c .third % 16 ≡ 0 → ⊥ = rw (and-mask (c .third) 4) at h in
       rw (and-mask (c .third) 4, k, ne-eqb (c .third % 16) 0 h′)
 
-  pub guard-short : c .kind ≡ 5 → c .fourth < 18 → ltb (c .third) (shifted (c .fourth)) ≡ thirdAllowed edition32 c
+  pub guard-short : c .kind ≡ 5 → c .fourth < 18 → (n : ℕ) → n ≡ 2 ^ c .fourth → ltb (c .third) n ≡ thirdAllowed edition32 c
   unfolding thirdAllowed isUntyped isCNode
-  guard-short k h = let least : min 18 (c .fourth) ≡ c .fourth = omega arith in rw (one-shl (c .fourth) (omega arith), k, least)
+  guard-short k h n e = let least : min 18 (c .fourth) ≡ c .fourth = omega arith in rw (e, k, least)
 
   pub guard-long : c .kind ≡ 5 → 18 ≤ c .fourth → ltb (c .third) 0x4_0000 ≡ thirdAllowed edition32 c
   unfolding thirdAllowed isUntyped isCNode

@@ -4,6 +4,7 @@ use model::Row;
 use model::base_exponent;
 use model::exponent;
 use table::cap_at;
+use table::size::pow2;
 use table::word;
 ghost use mathlib.Core.Path.{_≡_};
 ghost use mathlib.Core.Bool.{true, false, _&&_};
@@ -42,12 +43,12 @@ fn place_allowed(c: Cap, m: u32) -> bool
     if (m as u64) < power {
         return false;
     }
-    let bytes = 1u64 << power;
+    let bytes = pow2(power as u32);
     let address = c.address.0 as u64;
     if address & (bytes - 1) != 0 {
         return false;
     }
-    address + bytes <= 1u64 << m
+    address + bytes <= pow2(m)
 }
 
 // All rights of a kind.
@@ -78,10 +79,10 @@ fn third_allowed(c: Cap) -> bool
 {
     let kind = c.kind;
     match kind {
-        UNTYPED => c.third & 15 == 0 && (c.third as u64) <= 1u64 << c.size,
+        UNTYPED => c.third & 15 == 0 && (c.third as u64) <= pow2(c.size),
         CNODE => {
             if c.fourth < 18 {
-                (c.third as u64) < 1u64 << c.fourth
+                (c.third as u64) < pow2(c.fourth)
             } else {
                 c.third < 0x4_0000
             }

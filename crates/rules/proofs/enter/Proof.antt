@@ -1,12 +1,12 @@
 -- Each way out is a way of the definition.
-use Prim.Native.Nat.{_+_, _*_, _/_, _%_, _^_, _≤_, _<_}
+use Prim.Native.Nat.{_+_, _/_, _≤_, _<_}
 use mathlib.Core.Path.{_≡_, refl, sym, ap, ap₂, _∙_}
 use native.Mathlib.Omega.{arith}
 use borrow.Author.Needs.{needs}
 use borrow.Author.Tests.{not-true, not-false}
 use Rattle.model.specs.declared.Cap.{Cap}
 use Rattle.rules.specs.Owners.{firstCell}
-use Rattle.rules.proofs.Enters.{m-most, some-kind, small, as-bytes, most-bytes, as-cells, in-array, first-in-array, below-typed, outside, is-held, others-own, takes}
+use Rattle.rules.proofs.Enters.{m-most, small, most-bytes, as-cells, in-array, first-in-array, below-typed, outside, is-held, others-own, takes}
 use Rattle.rules.proofs.enter.Statement.{statement}
 use Rattle.rules.proofs.enter.Tie as tie
 
@@ -26,37 +26,30 @@ returns c =
     let a = c .before .before .before in
     below-typed _ _ _ _ _ _ _ (a .before .cap-up .ensures) (a .cap-at .ensures) (c .before .if1 .taken) _ (c .same-object .ensures)
 
-sub-exponent : tie.Need-sub-exponent
-sub-exponent c = let a = c .before .before .before in some-kind _ _ _ (a .before .before .before .pre .0) _ (a .cap-at .ensures)
-
-exponent-requires : tie.Need-exponent-requires
-exponent-requires c κs = search needs
-
 -- ---- below an Untyped
 
 abbrev Sized : Type 0
-Sized = tie.After-exponent
+Sized = tie.After-bytes-of
 
 abbrev read : Sized → tie.After-cap-at
-read c = c .before .before .before .before
+read c = c .before .before .before
 
 abbrev start : Sized → tie.Start
 start c = read c .before .before .before
 
-shl-bytes : tie.Need-shl-bytes
-shl-bytes c = omega (arith, small _ _ _ (start c .pre .0) _ (read c .cap-at .ensures) _ (c .exponent .ensures))
+bytes-of-requires : tie.Need-bytes-of-requires
+bytes-of-requires c κs =
+    let a = c .before .before in
+    small _ _ _ (a .before .before .before .pre .0) _ (a .cap-at .ensures)
 
 inside-below-requires : tie.Need-inside-below-requires
-inside-below-requires c κs = (
-  as-bytes _ _ _ (start c .pre .0) _ (read c .cap-at .ensures) _ (c .exponent .ensures),
-  most-bytes _ _ _ (start c .pre .0) _ (read c .cap-at .ensures) _ (c .exponent .ensures),
-)
+inside-below-requires c κs = (c .bytes-of .ensures, most-bytes _ _ _ (start c .pre .0) _ (read c .cap-at .ensures) _ (c .bytes-of .ensures))
 
 returns-2 : tie.Need-returns-2
 returns-2 c =
     let i = c .before in
     let z : Sized = i .before in
-    outside _ _ _ _ _ _ _ (read z .before .cap-up .ensures) (read z .cap-at .ensures) (z .before .before .if1 .left) (sym (i .inside-below .ensures) ∙ not-true _ (c .if2 .taken)) _
+    outside _ _ _ _ _ _ _ (read z .before .cap-up .ensures) (read z .cap-at .ensures) (z .before .if1 .left) (sym (i .inside-below .ensures) ∙ not-true _ (c .if2 .taken)) _
 
 row-of-requires : tie.Need-row-of-requires
 row-of-requires c κs = search needs
@@ -67,7 +60,7 @@ cast-first c = search needs
 -- ---- where it lies is known
 
 abbrev Found : Type 0
-Found = tie.After-struct-known3
+Found = tie.After-struct-known2
 
 abbrev sized : Found → Sized
 sized c = c .before .before .before .before
@@ -96,13 +89,13 @@ returns-3 c =
     let f : Found = b .before .before in
     let i = f .before .before in
     let z = sized f in
-    is-held _ _ _ _ _ _ _ (read z .before .cap-up .ensures) (read z .cap-at .ensures) (z .before .before .if1 .left) (sym (i .before .inside-below .ensures) ∙ not-false _ (i .if2 .left)) _ (is-first f)
+    is-held _ _ _ _ _ _ _ (read z .before .cap-up .ensures) (read z .cap-at .ensures) (z .before .if1 .left) (sym (i .before .inside-below .ensures) ∙ not-false _ (i .if2 .left)) _ (is-first f)
     (b .if3 .taken) _ (c .beside .ensures)
 
-cells-in : (c : Found) → c .before .row-of .result .0 + ((1 * 2 ^ sized c .exponent .result) % 2 ^ 64) / 16 ≤ 4096
+cells-in : (c : Found) → c .before .row-of .result .0 + sized c .bytes-of .result / 16 ≤ 4096
 cells-in c =
     let z = sized c in
-    omega (arith, is-first c, as-cells _ _ _ (start z .pre .0) _ (read z .cap-at .ensures) _ (z .exponent .ensures), in-array _ _ _ (start z .pre .0) _ (read z .cap-at .ensures))
+    omega (arith, is-first c, as-cells _ _ _ (start z .pre .0) _ (read z .cap-at .ensures) _ (z .bytes-of .ensures), in-array _ _ _ (start z .pre .0) _ (read z .cap-at .ensures))
 
 owned-by-requires : tie.Need-owned-by-requires
 owned-by-requires c κs = cells-in (c .before .before .before)
@@ -114,8 +107,8 @@ returns-4 c =
     let f : Found = b .before .before in
     let i = f .before .before in
     let z = sized f in
-    others-own _ _ _ _ _ _ _ (read z .before .cap-up .ensures) (read z .cap-at .ensures) (z .before .before .if1 .left) (sym (i .before .inside-below .ensures) ∙ not-false _ (i .if2 .left)) _ (is-first f)
-    (b .if3 .left) _ (as-cells _ _ _ (start z .pre .0) _ (read z .cap-at .ensures) _ (z .exponent .ensures)) (sym (w .owned-by .ensures) ∙ not-true _ (c .if4 .taken)) _
+    others-own _ _ _ _ _ _ _ (read z .before .cap-up .ensures) (read z .cap-at .ensures) (z .before .if1 .left) (sym (i .before .inside-below .ensures) ∙ not-false _ (i .if2 .left)) _ (is-first f)
+    (b .if3 .left) _ (as-cells _ _ _ (start z .pre .0) _ (read z .cap-at .ensures) _ (z .bytes-of .ensures)) (sym (w .owned-by .ensures) ∙ not-true _ (c .if4 .taken)) _
 
 take-requires : tie.Need-take-requires
 take-requires c κs = cells-in (c .before .before .before .before .before .before)
@@ -128,8 +121,8 @@ returns-5 c =
     let f : Found = b .before .before in
     let i = f .before .before in
     let z = sized f in
-    takes _ _ _ _ _ _ _ (read z .before .cap-up .ensures) (read z .cap-at .ensures) (z .before .before .if1 .left) (sym (i .before .inside-below .ensures) ∙ not-false _ (i .if2 .left)) _ (is-first f)
-    (b .if3 .left) _ (as-cells _ _ _ (start z .pre .0) _ (read z .cap-at .ensures) _ (z .exponent .ensures)) (sym (w .owned-by .ensures) ∙ not-false _ (e .if4 .left)) _ (c .take .ensures)
+    takes _ _ _ _ _ _ _ (read z .before .cap-up .ensures) (read z .cap-at .ensures) (z .before .if1 .left) (sym (i .before .inside-below .ensures) ∙ not-false _ (i .if2 .left)) _ (is-first f)
+    (b .if3 .left) _ (as-cells _ _ _ (start z .pre .0) _ (read z .cap-at .ensures) _ (z .bytes-of .ensures)) (sym (w .owned-by .ensures) ∙ not-false _ (e .if4 .left)) _ (c .take .ensures)
 
 pub enter-spec : {M : Type 1} → statement M
 enter-spec =
@@ -139,9 +132,7 @@ enter-spec =
     cap-at-requires
     same-object-requires
     returns
-    sub-exponent
-    exponent-requires
-    shl-bytes
+    bytes-of-requires
     inside-below-requires
     returns-2
     row-of-requires

@@ -11,33 +11,24 @@ use Rattle.rules_row.proofs.third_allowed.Tie as tie
 cast-result : tie.Need-cast-result
 cast-result c = search needs
 
+pow2-requires : tie.Need-pow2-requires
+unfolding isUntyped
+pow2-requires c κs = let s = c .before .before .before in omega (arith, s .before .pre (eq-eqb _ 1 (s .match .keys1)))
+
 cast-result-2 : tie.Need-cast-result-2
 cast-result-2 c = search needs
 
-shl-result : tie.Need-shl-result
-unfolding isUntyped
-shl-result c = let s = c .before .before .before .before in omega (arith, s .before .pre (eq-eqb _ 1 (s .match .keys1)))
-
-cast-result-3 : tie.Need-cast-result-3
-cast-result-3 c = search needs
-
-cast-result-4 : tie.Need-cast-result-4
-cast-result-4 c = search needs
-
-shl-result-2 : tie.Need-shl-result-2
-shl-result-2 c = search needs
+pow2-requires-2 : tie.Need-pow2-requires-2
+pow2-requires-2 c κs = search needs
 
 returns : tie.Need-returns
-unfolding isUntyped
-returns c =
-    let s = c .before .before .before .before in
-    watermark _ (s .match .keys1) (s .before .pre (eq-eqb _ 1 (s .match .keys1))) (c .before .before .if1 .taken)
+returns c = let s = c .before .before in watermark _ (s .before .before .match .keys1) (s .if1 .taken) _ (c .pow2 .ensures)
 
 returns-2 : tie.Need-returns-2
 returns-2 c = watermark-off _ (c .before .before .match .keys1) (c .if1 .left)
 
 returns-3 : tie.Need-returns-3
-returns-3 c = guard-short _ (c .before .before .before .before .match .keys2) (c .before .before .if2 .taken)
+returns-3 c = let s = c .before .before in guard-short _ (s .before .before .match .keys2) (s .if2 .taken) _ (c .pow22 .ensures)
 
 returns-4 : tie.Need-returns-4
 returns-4 c = guard-long _ (c .before .before .before .match .keys2) (c .before .if2 .left)
@@ -53,11 +44,9 @@ third-allowed-spec =
     tie.close
     (tie.spec
     cast-result
+    pow2-requires
     cast-result-2
-    shl-result
-    cast-result-3
-    cast-result-4
-    shl-result-2
+    pow2-requires-2
     returns
     returns-2
     returns-3
