@@ -1,7 +1,7 @@
 -- The window in a node: each test on offset and window, and the first slot where all pass.
-use Prim.Native.Nat.{ℕ, _+_, _-_, _/_, _^_, _≤_, _<_}
-use mathlib.Core.Path.{_≡_, sym, ap, _∙_}
-use mathlib.Core.Bool.{Bool, true, false, not, _||_}
+use Prim.Native.Nat.{ℕ, _+_, _-_, _/_, _≤_, _<_}
+use mathlib.Core.Path.{_≡_, _∙_}
+use mathlib.Core.Bool.{true, false, not, _||_}
 use native.Mathlib.Omega.{arith}
 use lib.Dec.{leb, ltb, eqb}
 use borrow.Author.Tests.{eq-eqb, ne-eqb, le-leb, lt-leb, lt-ltb, le-ltb}
@@ -11,7 +11,7 @@ use Rattle.model.specs.declared.Cap.{Cap}
 use Rattle.model.specs.declared.Failure.the-variants.{Missing}
 use Rattle.model.specs.declared.Retyping.{Retyping}
 use Rattle.model.specs.Cap.{isCNode, firstRow, slots}
-use Rattle.model.specs.Check.{passed, refused, refuse, _>>_}
+use Rattle.model.specs.Check.{passed, refused}
 use Rattle.model.proofs.Kept.Powers.{exponent-le}
 use Rattle.retype.specs.Window.{windowIn}
 use Rattle.retype.proofs.Tests.{stops, passes}

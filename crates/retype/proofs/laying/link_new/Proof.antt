@@ -1,7 +1,7 @@
 -- `retype::laying::link_new` meets its contract. The loop's invariant: what is left of the run, put after the row that was linked last, is the whole
 -- run. The measure is what is left. Assumes nothing.
-use Prim.Native.Nat.{ℕ, _+_, _*_, _^_, _≤_, _<_}
-use mathlib.Core.Path.{_≡_, refl, sym, ap, _∙_}
+use Prim.Native.Nat.{ℕ, _+_, _^_, _≤_, _<_}
+use mathlib.Core.Path.{_≡_, ap, _∙_}
 use native.Mathlib.Omega.{arith}
 use lib.Pow.{pow-pos}
 use Rattle.retype.proofs.Sizes.{exponent-small}

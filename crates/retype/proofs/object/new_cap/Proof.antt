@@ -7,7 +7,7 @@ use mathlib.Core.Bool.{cond}
 use native.Mathlib.Omega.{arith}
 use lib.Dec.{eqb}
 use borrow.Author.Needs.{needs}
-use borrow.Author.Tests.{eq-eqb, ne-eqb}
+use borrow.Author.Tests.{ne-eqb}
 use Rattle.model.specs.Edition.{edition32}
 use Rattle.model.specs.declared.Cap.{Cap}
 use Rattle.model.specs.declared.Address.{Address}

@@ -1,6 +1,6 @@
 -- `retype::place::window` meets its contract: each way out is a law of Windows.
 -- Assumes nothing.
-use Prim.Native.Nat.{ℕ, _+_, _≤_, _<_}
+use Prim.Native.Nat.{_≤_}
 use mathlib.Core.Path.{_≡_}
 use mathlib.Core.Bool.{false, _||_}
 use mathlib.Core.Logic.{⊎-elim}
