@@ -1,16 +1,17 @@
 // Who is asked: the service that a message names, and the roots after it.
+use crate::message::invokes;
+use crate::message::operation_of;
+use crate::message::word_at;
+use crate::message::words_of;
 use lookup::Found;
 use lookup::named;
 use model::Address;
 use model::Answer;
 use model::Cap;
 use model::Place;
+use model::Retyping;
 use model::Row;
 use table::cap_at;
-use crate::message::invokes;
-use crate::message::operation_of;
-use crate::message::word_at;
-use crate::message::words_of;
 ghost use mathlib.Core.Path.{_≡_};
 ghost use Prim.Native.Nat.{_+_, _*_, _≤_};
 ghost use lib.ListN.{length};
@@ -39,7 +40,12 @@ pub fn row_named(table: &[u32], caller: u32, message: &[u32], at: u32) -> Found
     requires { ⌜ Ready (now table) ⌝ }
     ensures { λ r. ⌜ Finds (now (table .entry)) (asking.rowNamedBy (tables.capOf (now (table .entry))) caller (now (message .entry)) at) r ⌝ }
 {
-    named(table, cap_or_nothing(table, caller), word_at(message, at as usize), at)
+    named(
+        table,
+        cap_or_nothing(table, caller),
+        word_at(message, at as usize),
+        at,
+    )
 }
 
 // The service that a message asks, once it may be asked.
@@ -68,15 +74,29 @@ pub fn asked(table: &[u32], caller: u32, message: &[u32]) -> Found
     Found::At(row)
 }
 
-// The index and depth at message word `at`, looked up from a capability.
-pub fn place(root: Cap, message: &[u32], at: usize, source: bool) -> Place
-    requires { ⌜ at + 1 ≤ 16 ⌝ }
-    ensures { λ r. ⌜ r ≡ spec.place root (now (message .entry)) at source ⌝ }
+// The index and depth at message word `at`, looked up from the capability in a row.
+pub fn place(table: &[u32], root: Row, message: &[u32], at: usize, source: bool) -> Place
+    requires { ⌜ at ≤ 16 ⌝ ∗ ⌜ root .0 * 8 + 8 ≤ length (now table) ⌝ }
+    ensures { λ r. ⌜ r ≡ spec.place (tables.capOf (now (table .entry)) (root .0)) (now (message .entry)) at source ⌝ }
 {
     Place {
-        root,
+        root: cap_at(table, root),
         index: word_at(message, at),
         depth: word_at(message, at + 1),
         source,
+    }
+}
+
+// What a message asks of Retype, with its root in a row.
+pub fn retyping(table: &[u32], root: Row, message: &[u32]) -> Retyping
+    requires { ⌜ root .0 * 8 + 8 ≤ length (now table) ⌝ }
+    ensures { λ r. ⌜ r ≡ asking.retypingBy (tables.capOf (now (table .entry))) (now (message .entry)) (root .0) ⌝ }
+{
+    Retyping {
+        object: word_at(message, 2),
+        size: word_at(message, 3),
+        into: place(table, root, message, 5, false),
+        offset: word_at(message, 7),
+        window: word_at(message, 8),
     }
 }

@@ -2,6 +2,7 @@
 mod asking;
 mod booting;
 mod message;
+mod performing;
 
 use model::Answer;
 use model::Failure;

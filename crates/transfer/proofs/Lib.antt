@@ -5,3 +5,6 @@ pub mod Bounds
 pub mod Stored
 pub mod Along
 pub mod Planned
+pub mod Located
+pub mod Turning
+pub mod Rotates

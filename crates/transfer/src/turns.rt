@@ -1,8 +1,8 @@
 // The tests of Rotate: three rows that are apart, pivot and source occupied, the data allowed.
-use crate::caps::with_datum;
 use crate::caps::Altered;
-use lookup::find;
+use crate::caps::with_datum;
 use lookup::Found;
+use lookup::find;
 use model::Answer;
 use model::Cap;
 use model::Failure;
@@ -43,7 +43,7 @@ pub enum Turning {
 }
 
 // The rows that destination, source and pivot name.
-pub fn located(t: &[u32], dest: Place, pivot: Place, source: Place) -> Located
+pub fn three_rows(t: &[u32], dest: Place, pivot: Place, source: Place) -> Located
     requires { ⌜ Ready (now t) ⌝ ∗ ⌜ Reached (now t) dest ⌝ ∗ ⌜ Reached (now t) pivot ⌝ ∗ ⌜ Reached (now t) source ⌝ }
     ensures { λ r. ⌜ spec.Locates (now (t .entry)) (spec.threeRows edition32 (capOf (now (t .entry))) dest pivot source) r ⌝ }
 {
@@ -72,7 +72,7 @@ pub fn located(t: &[u32], dest: Place, pivot: Place, source: Place) -> Located
 
 // What pivot and source become.
 fn turn_caps(rows: Rows, pivot: Cap, source: Cap, datum: u32, pivot_datum: u32) -> Turning
-    ensures { λ r. ⌜ spec.ofTurning r ≡ spec.turnCaps edition32 rows pivot source datum pivot_datum ⌝ }
+    ensures { λ r. ⌜ spec.ofTurning r ≡ spec.turnCaps edition32 rows pivot source datum «pivot_datum» ⌝ }
 {
     let first = with_datum(false, datum, pivot);
     match first {
@@ -92,9 +92,16 @@ fn turn_caps(rows: Rows, pivot: Cap, source: Cap, datum: u32, pivot_datum: u32) 
 }
 
 // What turns, where it may.
-pub fn turning(t: &[u32], rows: Rows, pivot: Place, source: Place, datum: u32, pivot_datum: u32) -> Turning
+pub fn turn_at(
+    t: &[u32],
+    rows: Rows,
+    pivot: Place,
+    source: Place,
+    datum: u32,
+    pivot_datum: u32,
+) -> Turning
     requires { ⌜ spec.InRows (now t) rows ⌝ }
-    ensures { λ r. ⌜ spec.TurnsFrom (now (t .entry)) rows (spec.turn edition32 (capOf (now (t .entry))) rows pivot source datum pivot_datum) r ⌝ }
+    ensures { λ r. ⌜ spec.TurnsFrom (now (t .entry)) rows (spec.turn edition32 (capOf (now (t .entry))) rows pivot source datum «pivot_datum») r ⌝ }
 {
     if rows.mid.0 == rows.from.0 || rows.mid.0 == rows.to.0 {
         return Turning::Refused(Answer::IllegalOperation);

@@ -6,13 +6,13 @@ use mathlib.Core.List.{List, List·Memᴰ·eq-of-singleton, List·Memᴰ·head, 
 use native.Mathlib.Omega.{arith}
 use lib.Dec.{eqb}
 use lib.ListN.{length}
-use borrow.Author.Tests.{eq-eqb, eqb-false, eqb-true}
+use borrow.Author.Tests.{eq-eqb, eqb-false, eqb-true, not-true}
 use Rattle.model.specs.Lists.{any, keep, member, repeat}
 use Rattle.model.specs.Edition.{Edition}
 use Rattle.model.specs.Cap.{houses, isEmpty, isUntyped, sameObject}
 use Rattle.model.specs.Tree.{Entry, Forest, below, capAt, entries}
 use Rattle.model.specs.Estate.{brings, estate, rowsBelow, widen}
-use Rattle.model.proofs.Booleans.{either, or-cases, or-left, or-right}
+use Rattle.model.proofs.Booleans.{and-left, and-right, either, or-cases, or-left, or-right}
 use Rattle.model.proofs.Members.{Has, any-has, any-some, has-member, member-has}
 use Rattle.model.proofs.Kept.Rounds.{rounds-closed, rounds-hold, rounds-inside}
 
@@ -37,6 +37,7 @@ module _ (E : Edition) (f : Forest) (n : ℕ) where
   abbrev pub Brought : (ℕ → Type 0) → Type 0
   Brought C = (j k : ℕ) → k < n → C j → brings E f j k ≡ true → C k
 
+  -- row k is in the set, or a row of the set brings it
   comes : List ℕ → ℕ → Bool
   comes set k = member k set || any (λ j. brings E f j k) set
 
@@ -104,3 +105,15 @@ module _ (E : Edition) (f : Forest) (j k : ℕ) where
   pub brings-name : isEmpty (capAt f j) ≡ false → isUntyped (capAt f j) ≡ false → sameObject (capAt f j) (capAt f k) ≡ true → brings E f j k ≡ true
   unfolding brings
   brings-name h t s = or-right (houses E (capAt f j) k || lower) twins (rw (h, t) s)
+
+  pub brings-cases : {X : Type 0} → brings E f j k ≡ true → (houses E (capAt f j) k ≡ true → X) → ((d : Entry) → Has d (entries (below f j)) → d .row ≡ k → X)
+      → (isEmpty (capAt f j) ≡ false → isUntyped (capAt f j) ≡ false → sameObject (capAt f j) (capAt f k) ≡ true → X) → X
+  unfolding brings
+  brings-cases h p q r =
+      or-cases (houses E (capAt f j) k || lower) twins h
+      (λ t. or-cases (houses E (capAt f j) k) lower t p (λ u. let (d, m, e) = any-some (λ d. eqb (d .row) k) (entries (below f j)) u in q d m (eqb-true (d .row) k e)))
+      (λ t.
+      let a = not (isEmpty (capAt f j)) in
+      let b = not (isUntyped (capAt f j)) in
+      let c = sameObject (capAt f j) (capAt f k) in
+      r (not-true (isEmpty (capAt f j)) (and-left a b (and-left (a && b) c t))) (not-true (isUntyped (capAt f j)) (and-right a b (and-left (a && b) c t))) (and-right (a && b) c t))
