@@ -24,10 +24,9 @@ pub no-node : (E : Edition) (n : Cap) (q : Retyping) → (n .kind ≡ 5 → ⊥)
 unfolding windowIn isCNode
 no-node E n q h = stops _ _ _ rw (ne-eqb (n .kind) 5 h)
 
-module _ (n : Cap) (q : Retyping) (room : isCNode n ≡ true → firstRow edition32 n + slots n ≤ 4096) (node : n .kind ≡ 5) where
-  pub radix-small : n .size ≤ 12
-  unfolding slots
-  radix-small = exponent-le 12 (n .size) (omega (arith, room (node-kind n node)))
+pub radix-small : (n : Cap) → (isCNode n ≡ true → firstRow edition32 n + slots n ≤ 4096) → n .kind ≡ 5 → n .size ≤ 12
+unfolding slots
+radix-small n room node = exponent-le 12 (n .size) (omega (arith, room (node-kind n node)))
 
 -- `w` is the number of slots
 module _ (n : Cap) (q : Retyping) (w : ℕ) (is : w ≡ slots n) (node : n .kind ≡ 5) where

@@ -37,8 +37,8 @@ exponent-requires c κs = search needs
 cast-shown : tie.Need-cast-shown
 cast-shown c = omega (arith, c .exponent .ensures, exponent-small _ _ (c .before .before .pre))
 
-add-t7 : tie.Need-add-t7
-add-t7 c = search needs
+add-kind : tie.Need-add-kind
+add-kind c = search needs
 
 full-rights-requires : tie.Need-full-rights-requires
 full-rights-requires c κs = search needs
@@ -51,4 +51,4 @@ returns c =
 
 pub new-cap-spec : {M : Type 1} → statement M
 new-cap-spec =
-    tie.close (tie.spec exponent-requires cast-shown add-t7 full-rights-requires returns)
+    tie.close (tie.spec exponent-requires cast-shown add-kind full-rights-requires returns)

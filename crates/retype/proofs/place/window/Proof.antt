@@ -18,7 +18,7 @@ returns : tie.Need-returns
 returns c = no-node _ _ _ (c .if1 .taken)
 
 slots-of-requires : tie.Need-slots-of-requires
-slots-of-requires c κs = omega (arith, radix-small _ (c .before .before .args .q) (c .before .before .pre) (c .if1 .left))
+slots-of-requires c κs = omega (arith, radix-small _ (c .before .before .pre) (c .if1 .left))
 
 -- the slots that are there
 few : (c : tie.After-slots-of) → c .slots-of .result ≤ 4096
