@@ -2,13 +2,12 @@
 use Prim.Native.Nat.{ℕ}
 use mathlib.Core.Path.{_≡_, refl, sym, ap, _∙_, subst}
 use mathlib.Core.Bool.{true}
-use mathlib.Core.List.{List}
 use Rattle.model.specs.declared.Answer.{Answer}
 use Rattle.model.specs.declared.Answer.the-variants.{Success}
 use Rattle.model.specs.declared.Cap.{Cap}
 use Rattle.model.specs.declared.Place.{Place}
 use Rattle.model.specs.Edition.{Edition, edition32}
-use Rattle.model.specs.Check.{Check, passed, refused, _>>=_, _>>_, refuse}
+use Rattle.model.specs.Check.{Check, passed, refused, _>>=_, _>>_}
 use Rattle.model.specs.Tree.{Forest, capAt}
 use Rattle.model.specs.Tables.{Tables, capOf, read}
 use Rattle.model.specs.Rules.{wellFormed}

@@ -9,7 +9,6 @@ use caps::full;
 use model::Answer;
 use model::Change;
 use model::Place;
-use shifts::shift;
 use table::cap_at;
 use table::has_children;
 use table::stores::link;
@@ -43,7 +42,8 @@ fn copied(t: &mut [u32], control: &mut [u32; 4], w: Way)
 {
     let next = word(t, w.from, 5);
     let depth = word(t, w.from, 7);
-    let source = full(cap_at(t, w.from));
+    let old = cap_at(t, w.from);
+    let source = full(old);
     put_cap(t, w.from, source);
     link(t, w.from, next, w.to, fresh(w.cap), depth + 1);
     control[3] = control[3] + 1;
