@@ -17,6 +17,7 @@ use Rattle.retype.proofs.Sizes.{exponent-small}
 use Rattle.retype.proofs.object.new_cap.Statement.{statement}
 use Rattle.retype.proofs.object.new_cap.Tie as tie
 
+-- a CNode's radix, else the power of two of the object's bytes
 abbrev shownSize : (object size : ℕ) → ℕ
 shownSize object size = cond (eqb object 4) size (exponent edition32 object size)
 
