@@ -45,19 +45,30 @@ cap-at-requires-2 : tie.Need-cap-at-requires-2
 cap-at-requires-2 c κs = search needs
 
 returns-3 : tie.Need-returns-3
-returns-3 c = source-missing _ _ _ _ _ _ (differ (c .before .before .before)) (vacant (c .before .before .before)) (empty-there _ _ _ (c .before .before .cap-at2 .ensures) (c .if5 .taken))
+returns-3 c =
+    let tested = c .before .before .before in
+    source-missing _ _ _ _ _ _ (differ tested) (vacant tested) (empty-there _ _ _ (c .before .before .cap-at2 .ensures) (c .if5 .taken))
 
 cap-at-requires-3 : tie.Need-cap-at-requires-3
 cap-at-requires-3 c κs = search needs
 
 returns-4 : tie.Need-returns-4
-returns-4 c = pivot-missing _ _ _ _ _ _ (differ (c .before .before .before .before .before .before)) (vacant (c .before .before .before .before .before .before)) (held-there _ _ _ (c .before .before .before .before .before .cap-at2 .ensures) (c .before .before .before .if5 .left)) (empty-there _ _ _ (c .before .before .cap-at3 .ensures) (c .if6 .taken))
+returns-4 c =
+    let moving = c .before .before .before in
+    let tested = moving .before .before .before in
+    pivot-missing _ _ _ _ _ _ (differ tested) (vacant tested) (held-there _ _ _ (moving .before .before .cap-at2 .ensures) (moving .if5 .left)) (empty-there _ _ _ (c .before .before .cap-at3 .ensures) (c .if6 .taken))
 
 turn-caps-requires : tie.Need-turn-caps-requires
 turn-caps-requires c κs = search needs
 
 returns-5 : tie.Need-returns-5
-returns-5 c = turns-on _ _ _ _ _ _ (differ (c .before .before .before .before .before .before .before)) (vacant (c .before .before .before .before .before .before .before)) (held-there _ _ _ (c .before .before .before .before .before .before .cap-at2 .ensures) (c .before .before .before .before .if5 .left)) (held-there _ _ _ (c .before .before .before .cap-at3 .ensures) (c .before .if6 .left)) _ (c .turn-caps .ensures ∙ ap₂ (λ (p s : Cap). turnCaps edition32 (c .before .before .before .before .before .before .before .before .before .before .before .before .before .before .before .args .rows) p s (c .before .before .before .before .before .before .before .before .before .before .before .before .before .before .before .args .datum) (c .before .before .before .before .before .before .before .before .before .before .before .before .before .before .before .args .pivot-datum)) (c .before .before .before .cap-at3 .ensures) (c .before .before .before .before .before .before .cap-at2 .ensures))
+returns-5 c =
+    let moving = c .before .before .before .before in
+    let tested = moving .before .before .before in
+    let args = start tested .args in
+    turns-on _ _ _ _ _ _ (differ tested) (vacant tested) (held-there _ _ _ (moving .before .before .cap-at2 .ensures) (moving .if5 .left)) (held-there _ _ _ (c .before .before .before .cap-at3 .ensures) (c .before .if6 .left)) _
+    (c .turn-caps .ensures
+    ∙ ap₂ (λ (p s : Cap). turnCaps edition32 (args .rows) p s (args .datum) (args .pivot-datum)) (c .before .before .before .cap-at3 .ensures) (moving .before .before .cap-at2 .ensures))
 
 pub turn-at-spec : {M : Type 1} → statement M
 turn-at-spec =
