@@ -40,7 +40,6 @@ vacant j =
     (λ w. first-false (not (eqb (start j .args .rows .to .0) (start j .args .rows .from .0))) (empty-there _ _ _ (j .before .before .cap-at .ensures) (w .left)))
     (j .if3 .came)
 
-
 cap-at-requires-2 : tie.Need-cap-at-requires-2
 cap-at-requires-2 c κs = search needs
 
