@@ -27,7 +27,7 @@ enum-known-turning-2 c = search needs
 turned-requires : tie.Need-turned-requires
 turned-requires c κs =
     let rows = c .before .before .before .before .before .before .before .before in
-    can-turn _ (rows .before .before .before .before .before .pre .0) _ _ (rw (rows .located2 .given .1) at (rows .before .before .three-rows .ensures)) _ _ (rw (c .before .before .before .turning2 .given .1) at (c .before .before .before .before .before .turn-at .ensures))
+    can-turn _ (rows .before .before .before .before .before .pre .0) _ _ ((rw (rows .located2 .given .1) at (rows .before .before .three-rows .ensures)) .inside _ refl) ((rw (c .before .before .before .turning2 .given .1) at (c .before .before .before .before .before .turn-at .ensures)) .goes _ refl)
 
 same-length : tie.Need-same-length
 same-length c = search needs

@@ -1,16 +1,13 @@
 -- The law of `Turning` for each way out.
 -- The law of `Turning` for each way out.
 use mathlib.Core.Bool.{false, not, _&&_, _||_}
-use mathlib.Core.Path.{_≡_, _∙_, ap₂}
+use mathlib.Core.Path.{_≡_}
 use mathlib.Core.Logic.{⊎-elim}
 use lib.Dec.{eqb}
 use denote.Ref.{now}
 use borrow.Author.Needs.{needs}
-use Rattle.model.specs.Edition.{edition32}
-use Rattle.model.specs.declared.Cap.{Cap}
 use Rattle.model.specs.Tables.{capOf}
 use Rattle.model.specs.Cap.{isEmpty}
-use Rattle.transfer.specs.Turns.{turnCaps}
 use Rattle.transfer.proofs.Turning.{equal-first, equal-second, equal-none, empty-there, held-there, both-true, first-false, second-false}
 use Rattle.transfer.proofs.Turning.{not-apart, occupied, source-missing, pivot-missing, turns-on}
 use Rattle.transfer.proofs.turns.turn_at.Statement.{statement}
@@ -64,10 +61,8 @@ returns-5 : tie.Need-returns-5
 returns-5 c =
     let moving = c .before .before .before .before in
     let tested = moving .before .before .before in
-    let args = start tested .args in
-    turns-on _ _ _ _ _ _ (differ tested) (vacant tested) (held-there _ _ _ (moving .before .before .cap-at2 .ensures) (moving .if5 .left)) (held-there _ _ _ (c .before .before .before .cap-at3 .ensures) (c .before .if6 .left)) _
-    (c .turn-caps .ensures
-    ∙ ap₂ (λ (p s : Cap). turnCaps edition32 (args .rows) p s (args .datum) (args .pivot-datum)) (c .before .before .before .cap-at3 .ensures) (moving .before .before .cap-at2 .ensures))
+    turns-on _ _ _ _ _ _ (differ tested) (vacant tested) (held-there _ _ _ (moving .before .before .cap-at2 .ensures) (moving .if5 .left)) (held-there _ _ _ (c .before .before .before .cap-at3 .ensures) (c .before .if6 .left)) _ _ _
+    (c .before .before .before .cap-at3 .ensures) (moving .before .before .cap-at2 .ensures) (c .turn-caps .ensures)
 
 pub turn-at-spec : {M : Type 1} → statement M
 turn-at-spec =
