@@ -141,7 +141,8 @@ fn thin(t: &mut [u32], control: &mut [u32; 4], mark: &[u32; 4096]) -> u32
     let mut kept: u32 = 0;
     while left > 0 {
         let next = table::word(t, Row(row), 5);
-        let depth = table::word(t, Row(row), 7) as usize;
+        let deep = table::word(t, Row(row), 7);
+        let depth = deep as usize;
         let level = low[depth];
         if mark[row as usize] != 0 {
             table::stores::unlink(t, Row(row), last, next);
