@@ -1,5 +1,8 @@
 // The core's face: boot, a request, and the six words of an answer.
+mod asking;
+mod booting;
 mod message;
+mod performing;
 
 use model::Answer;
 use model::Failure;
@@ -7,6 +10,31 @@ ghost use mathlib.Core.Path.{_≡_};
 ghost use mathlib.Core.List.{_∷_};
 ghost use Rattle.model.specs.Edition.{edition32};
 ghost use Rattle.model.specs.Request as spec;
+
+// Boot takes m and r.
+pub fn boot(table: &mut [u32], control: &mut [u32; 4], m: u32, r: u32) -> Answer
+    ensures { λ a. ⌜ record { answer = a; tables = record { table = now (table .exit); control = now (control .exit) } } ≡ spec.boot edition32 (record { table = now (table .entry); control = now (control .entry) }) m r ⌝ }
+{
+    if !booting::within(10, m, 16) {
+        return Answer::RangeError {
+            least: 10,
+            greatest: 16,
+        };
+    }
+    let greatest = booting::greatest_radix(m);
+    if !booting::within(4, r, greatest) {
+        return Answer::RangeError { least: 4, greatest };
+    }
+    if !booting::lengths_fit(table, control, m) {
+        return Answer::BadTables;
+    }
+    booting::fill(table, m, r);
+    control[0] = m;
+    control[1] = r;
+    control[2] = 0;
+    control[3] = m - r - 3;
+    Answer::Success { count: 0 }
+}
 
 // A lookup failure's four words.
 fn failure_words(failure: Failure) -> [u32; 4]

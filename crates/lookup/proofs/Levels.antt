@@ -1,7 +1,7 @@
 -- What one level of `descend` comes to, a law for each way out, over any edition and any `caps`; and what a loop over the levels keeps.
 -- Assumes nothing.
 use Prim.Native.Nat.{ℕ, zero, suc, _+_, _-_, _*_, _/_, _^_, _≤_, _<_}
-use mathlib.Core.Path.{_≡_, sym, ap, _∙_}
+use mathlib.Core.Path.{_≡_, sym, _∙_}
 use mathlib.Core.Bool.{true, false}
 use mathlib.Core.List.{List}
 use native.Mathlib.Nat.{mod-lt}
@@ -78,17 +78,28 @@ pub record Going (t : List ℕ) (address : ℕ) (answer : Looked) (node : Cap) (
   pub same : descend edition32 (capOf t) levels node address left ≡ answer
 
 module _ {t : List ℕ} {address : ℕ} {answer : Looked} {node : Cap} {left : ℕ} (g : Going t address answer node left) where
-  -- there is a level to take
-  level : (n : ℕ) × (left ≤ suc n) × (descend edition32 (capOf t) (suc n) node address left ≡ answer)
-  level = go (g .levels) (g .enough) (g .same)
+  -- there is a level to take, and n after it
+  abbrev Level : ℕ → Type 0
+  Level n = (left ≤ suc n) × (descend edition32 (capOf t) (suc n) node address left ≡ answer)
+
+  next-level : (n : ℕ) × Level n
+  next-level = go (g .levels) (g .enough) (g .same)
     where
-      go : (m : ℕ) → left ≤ m → descend edition32 (capOf t) m node address left ≡ answer → (n : ℕ) × (left ≤ suc n) × (descend edition32 (capOf t) (suc n) node address left ≡ answer)
+      go : (m : ℕ) → left ≤ m → descend edition32 (capOf t) m node address left ≡ answer → (n : ℕ) × Level n
       go zero h e = absurd (omega (arith, g .some))
-      go (suc n) h e = (n, h, e)
+      go (suc n) h e = (n, (h, e))
 
   pub ends : {r : Looked} → Ends edition32 (capOf t) node address left r → r ≡ answer
-  ends e = sym (e (level .0)) ∙ level .2
+  ends e = sym (e (next-level .0)) ∙ next-level .1 .1
 
-  pub goes-on : {next : Cap} {rest : ℕ} → GoesOn edition32 (capOf t) node address left next rest → Usable t next → 1 ≤ rest → rest < left → Going t address answer next rest
+  pub goes-on : {next : Cap} {rest : ℕ} → GoesOn edition32 (capOf t) node address left next rest → Usable t next → 1 ≤ rest → rest < left
+      → Going t address answer next rest
   goes-on e u h l =
-      record { usable = u; some = h; most = omega (arith, g .most); levels = level .0; enough = omega (arith, level .1); same = sym (e (level .0)) ∙ level .2 }
+      record {
+        usable = u;
+        some = h;
+        most = omega (arith, g .most);
+        levels = next-level .0;
+        enough = omega (arith, next-level .1 .0);
+        same = sym (e (next-level .0)) ∙ next-level .1 .1;
+      }

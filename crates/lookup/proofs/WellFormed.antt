@@ -101,6 +101,7 @@ module _ (t : Tables) (formed : wellFormed edition32 t ≡ true) where
   abbrev m : ℕ
   m = getD (t .control) 0 0
 
+  -- the rules on the table by itself
   abbrev tableTest : Bool
   tableTest = tableAllowed edition32 m (getD (t .control) 2 0) (getD (t .control) 3 0) (t .table)
 
@@ -113,9 +114,11 @@ module _ (t : Tables) (formed : wellFormed edition32 t ≡ true) where
   ready =
       let control : controlAllowed edition32 t ≡ true = and-left (controlAllowed edition32 t) tableTest rules in
       let table : tableTest ≡ true = and-right (controlAllowed edition32 t) tableTest rules in
-      let range : (10 ≤ m) × (m ≤ 16) = within-parts 10 m 16 (part _ 0 control) in
-      let long : length (t .table) ≡ 8 * rows edition32 m = eqb-true _ _ (and-left (eqb (length (t .table)) (8 * rows edition32 m)) (eqb (length (t .control)) 4) (part _ 2 control)) in
-      let few : 2 ^ (m - 4) ≤ 2 ^ 12 = pow-mono {i = m - 4} {j = 12} (omega (arith, range .1)) in
+      let range : (edition32 .leastM ≤ m) × (m ≤ edition32 .greatestM) = within-parts (edition32 .leastM) m (edition32 .greatestM) (part _ 0 control) in
+      let fit : eqb (length (t .table)) (8 * rows edition32 m) ≡ true = and-left (eqb (length (t .table)) (8 * rows edition32 m)) (eqb (length (t .control)) 4) (part _ 2 control) in
+      let long : length (t .table) ≡ 8 * rows edition32 m = eqb-true _ _ fit in
+      let low : m - edition32 .slot ≤ edition32 .greatestM - edition32 .slot = omega (arith, range .1) in
+      let few : 2 ^ (m - edition32 .slot) ≤ 2 ^ (edition32 .greatestM - edition32 .slot) = pow-mono low in
       record { small = omega arith; nodes = node-usable m (t .table) (omega (arith, range .0)) long (part _ 0 table) }
 
   -- a CNode that is read from the table

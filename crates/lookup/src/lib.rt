@@ -5,6 +5,7 @@ use model::Failure;
 use model::Looked;
 use model::Place;
 use model::Row;
+use table::CNODE;
 use table::cap_at;
 use table::row_of;
 use table::size::pow2;
@@ -20,8 +21,6 @@ ghost use Rattle.model.specs.Operations.{slotOf};
 ghost use Rattle.model.specs.Request.{orFault};
 ghost use Rattle.lookup.specs.Finds.{Finds};
 ghost use Rattle.lookup.specs.Ready.{Ready, Usable};
-
-const CNODE: u32 = 5;
 
 // Of the low `left` bits of an address, the top `n`.
 pub fn field(address: u32, left: u32, n: u32) -> u32

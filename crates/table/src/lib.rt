@@ -11,6 +11,9 @@ ghost use lib.ListN.{length};
 ghost use Rattle.model.specs.Tables as tables;
 ghost use Rattle.table.specs.Children.{deeperNext};
 
+// The kind of a CNode.
+pub const CNODE: u32 = 5;
+
 // Word i of a row.
 pub fn word(t: &[u32], row: Row, i: usize) -> u32
     requires { ⌜ (i < 8) × (row .0 * 8 + 8 ≤ length (now t)) ⌝ }

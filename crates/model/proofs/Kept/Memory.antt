@@ -1,9 +1,9 @@
 -- Memory on a sound forest: what stands below a capability, and that two capabilities neither of which is below the other are apart.
-use Prim.Native.Nat.{_+_, _<_, _≤_, ℕ}
+use Prim.Native.Nat.{ℕ, _+_, _<_, _≤_}
+use mathlib.Core.Path.{refl, sym, _∙_, _≡_}
 use mathlib.Core.Bool.{false, true}
 use mathlib.Core.List.{List·Memᴰ·head, List·Memᴰ·not-nil, List·Memᴰ·tail}
-use mathlib.Core.Logic.{_⊎_, inl, inr}
-use mathlib.Core.Path.{_∙_, _≡_, refl, sym}
+use mathlib.Core.Logic.{inl, inr, _⊎_}
 use native.Mathlib.Omega.{arith}
 use Rattle.model.specs.declared.Cap.{Cap}
 use Rattle.model.specs.Edition.{Edition}
@@ -23,19 +23,19 @@ module _ (E : Edition) where
     equal : x ≡ y → Meet f x y
     down : Under f x y → Meet f x y
     up : Under f y x → Meet f x y
-    aside : apart E (x .cap) (y .cap) ≡ true → Meet f x y
+    parted : apart E (x .cap) (y .cap) ≡ true → Meet f x y
 
   meet-under : {e : Entry} {b a : Forest} {x y : Entry} → Meet b x y → Meet (tree e b a) x y
   meet-under (equal i) = equal i
   meet-under (down u) = down (record { trees = u .trees; at = under (u .at); has = u .has })
   meet-under (up u) = up (record { trees = u .trees; at = under (u .at); has = u .has })
-  meet-under (aside h) = aside h
+  meet-under (parted h) = parted h
 
   meet-after : {e : Entry} {b a : Forest} {x y : Entry} → Meet a x y → Meet (tree e b a) x y
   meet-after (equal i) = equal i
   meet-after (down u) = down (record { trees = u .trees; at = after (u .at); has = u .has })
   meet-after (up u) = up (record { trees = u .trees; at = after (u .at); has = u .has })
-  meet-after (aside h) = aside h
+  meet-after (parted h) = parted h
 
   -- what is apart from each root is apart from each entry
   across : (c : Cap) (f : Forest) → ((d : Cap) → Has d (roots f) → apart E c d ≡ true) → familiesAllowed E f ≡ true → Marks E f → {y : Entry} → Has y (entries f) → apart E c (y .cap) ≡ true
@@ -56,7 +56,7 @@ module _ (E : Edition) where
   meets end fam pw ws m n = absurd (List·Memᴰ·not-nil m)
   meets (tree e b a) fam pw ws {x} {y} m n =
       go (λ k l. meets b (family E e b a fam .inside) (family E e b a fam .kids .pairs) (ws .1) k l) (λ k l. meets a (family E e b a fam .beside) (pair-tail E (e .cap) (roots a) pw) (ws .2) k l)
-        (three (entries b) (entries a) m) (three (entries b) (entries a) n)
+      (three (entries b) (entries a) m) (three (entries b) (entries a) n)
     where
       -- the tree's root, and what stands after the tree
       beside : {z : Entry} → Has z (entries a) → apart E (e .cap) (z .cap) ≡ true
@@ -66,18 +66,18 @@ module _ (E : Edition) where
       cousins : {w z : Entry} → Has w (entries b) → Has z (entries a) → apart E (z .cap) (w .cap) ≡ true
       cousins {w} {z} k l =
           apart-inherits E (z .cap) (e .cap) (w .cap) (apart-sym E (e .cap) (z .cap) (beside l))
-            (child-heir E (e .cap) (w .cap) (ws .0) (all-below E (e .cap) b (family E e b a fam .kids .each) (family E e b a fam .inside) (ws .1) k))
+          (child-heir E (e .cap) (w .cap) (ws .0) (all-below E (e .cap) b (family E e b a fam .kids .each) (family E e b a fam .inside) (ws .1) k))
 
       go : (Has x (entries b) → Has y (entries b) → Meet b x y) → (Has x (entries a) → Has y (entries a) → Meet a x y)
-        → (x ≡ e) ⊎ (Has x (entries b) ⊎ Has x (entries a)) → (y ≡ e) ⊎ (Has y (entries b) ⊎ Has y (entries a)) → Meet (tree e b a) x y
+          → (x ≡ e) ⊎ (Has x (entries b) ⊎ Has x (entries a)) → (y ≡ e) ⊎ (Has y (entries b) ⊎ Has y (entries a)) → Meet (tree e b a) x y
       go r s (inl i) (inl j) = equal (i ∙ sym j)
       go r s (inl i) (inr (inl k)) = down (record { trees = b; at = rw i here; has = k })
-      go r s (inl i) (inr (inr k)) = aside (rw i (beside k))
+      go r s (inl i) (inr (inr k)) = parted (rw i (beside k))
       go r s (inr (inl k)) (inl j) = up (record { trees = b; at = rw j here; has = k })
       go r s (inr (inl k)) (inr (inl l)) = meet-under (r k l)
-      go r s (inr (inl k)) (inr (inr l)) = aside (apart-sym E (y .cap) (x .cap) (cousins k l))
-      go r s (inr (inr k)) (inl j) = aside (rw j (apart-sym E (e .cap) (x .cap) (beside k)))
-      go r s (inr (inr k)) (inr (inl l)) = aside (cousins l k)
+      go r s (inr (inl k)) (inr (inr l)) = parted (apart-sym E (y .cap) (x .cap) (cousins k l))
+      go r s (inr (inr k)) (inl j) = parted (rw j (apart-sym E (e .cap) (x .cap) (beside k)))
+      go r s (inr (inr k)) (inr (inl l)) = parted (cousins l k)
       go r s (inr (inr k)) (inr (inr l)) = meet-after (s k l)
 
 -- byte p is one of the object's
@@ -114,14 +114,14 @@ module _ {E : Edition} {m : ℕ} {f : Forest} (s : Sound E m f) where
 
   -- two capabilities with a common byte are one entry, or name the same typed object, or one is below the other
   pub common-byte : {X : Type 0} {x y : Entry} (p : ℕ) → Has x (entries f) → Has y (entries f) → Over E p (x .cap) → Over E p (y .cap)
-    → (x ≡ y → X) → (Under f x y → X) → (Under f y x → X) → (sameObject (x .cap) (y .cap) ≡ true → isUntyped (x .cap) ≡ false → X) → X
+      → (x ≡ y → X) → (Under f x y → X) → (Under f y x → X) → (sameObject (x .cap) (y .cap) ≡ true → isUntyped (x .cap) ≡ false → X) → X
   common-byte {X} {x} {y} p k l o q one down′ up′ twins = go (meet k l)
     where
       go : Meet E f x y → X
       go (equal i) = one i
       go (down u) = down′ u
       go (up u) = up′ u
-      go (aside h) = let z = apart-over E p (x .cap) (y .cap) h o q in twins (z .0) (z .1)
+      go (parted h) = let z = apart-over E p (x .cap) (y .cap) h o q in twins (z .0) (z .1)
 
   -- live typed objects are disjoint or the same
   pub typed-apart : {x y : Entry} → Has x (entries f) → Has y (entries f) → isUntyped (x .cap) ≡ false → isUntyped (y .cap) ≡ false → apart E (x .cap) (y .cap) ≡ true
@@ -131,4 +131,4 @@ module _ {E : Edition} {m : ℕ} {f : Forest} (s : Sound E m f) where
       go (equal i) = apart-same E (x .cap) (y .cap) t (rw i (same-refl (y .cap)))
       go (down u) = apart-same E (x .cap) (y .cap) t (below-same u t)
       go (up u) = apart-sym E (y .cap) (x .cap) (apart-same E (y .cap) (x .cap) v (below-same u v))
-      go (aside h) = h
+      go (parted h) = h

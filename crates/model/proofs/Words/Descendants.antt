@@ -1,24 +1,25 @@
--- A row's descendants are the unbroken run after it with greater depth.
-use Prim.Native.Nat.{ℕ, _+_, _≤_, _<_, zero, suc}
+-- A row's descendants are the unbroken run after it with greater depth, so the words of a table tell whether it has children and which rows
+-- are below it.
+use Prim.Native.Nat.{ℕ, _+_, _*_, _≤_, _<_, zero, suc}
 use mathlib.Core.Path.{_≡_, refl, sym, ap, _∙_, subst}
-use mathlib.Core.Bool.{Bool, false, cond}
+use mathlib.Core.Bool.{Bool, false, cond, _&&_}
 use mathlib.Core.List.{List, [], _∷_, _++_, map}
 use native.Mathlib.Omega.{arith}
 use lib.Dec.{eqb, ltb}
 use lib.ListN.{getD, length}
 use borrow.Author.Tests.{eq-eqb, ne-eqb, lt-ltb, le-ltb}
+use Rattle.model.specs.Edition.{Edition}
+use Rattle.model.specs.Tree.{Forest, end, tree, isTree, hasChildren, entries, below}
+use Rattle.model.specs.Tables.{Listed, State, rows, word, firstOf, listing, write, capOf}
 use Rattle.model.proofs.Members.{All, all-map, all-append}
 use Rattle.model.proofs.Distinct.{Distinct}
 use Rattle.model.proofs.State.{rowsOf, Fits}
 use Rattle.model.proofs.Words.Listing.{Low, low-listing}
-use Rattle.model.proofs.Words.Chain.{listedAt}
 use Rattle.model.proofs.Words.Rows.{rowAt, rowsIn, capFrom, Holds}
 use Rattle.model.proofs.Words.ReadWrite.{entries-listing}
+use Rattle.model.proofs.Words.Chain.{listedAt}
 use Rattle.model.proofs.Words.Around.{Around, here, inside, behind, postOf, depthOf, At, under-is}
 use Rattle.model.proofs.Words.Edited.{listedOf, listedBefore, listedAfter, listedUnder, listedPast, after-is, T, written-at, below-at, next-at, depth-at}
-use Rattle.model.specs.Edition.{Edition}
-use Rattle.model.specs.Tree.{Forest, end, tree, isTree, hasChildren, entries, below}
-use Rattle.model.specs.Tables.{Listed, State, rows, word, firstOf, listing, write, capOf}
 
 deep : (f : Forest) (d e : ℕ) → e ≤ d → All (λ x. e ≤ x .depth) (listing d f)
 unfolding listing
@@ -74,11 +75,12 @@ children-deeper k f p d =
     ∙ sym (deeper-under (depthOf 0 (p .around)) (p .under) (listedPast p) (past-low k f p))
     ∙ ap (deeper (depthOf 0 (p .around))) (sym (after-is k f p))
 
-first-deeper : (E : Edition) (n : ℕ) (g : ℕ → List ℕ) (before d : ℕ) (xs : List Listed) → n ≤ E .none → All (λ j. j < n) (rowsIn xs) → Holds E g before xs
-    → deeper d xs ≡ cond (eqb (firstOf E xs) (E .none)) false (ltb d (getD (g (firstOf E xs)) 7 0))
+first-deeper : (E : Edition) (n : ℕ) (t : List ℕ) (before d : ℕ) (xs : List Listed) → n ≤ E .none → length t ≡ 8 * n → All (λ j. j < n) (rowsIn xs) → Holds E (rowAt t) before xs
+    → deeper d xs ≡ (ltb (firstOf E xs * 8 + 7) (length t) && ltb d (word t (firstOf E xs) 7))
 unfolding deeper firstOf
-first-deeper E n g before d [] room b h = rw (eq-eqb (E .none) (E .none) refl)
-first-deeper E n g before d (x ∷ xs) room b h = rw (ne-eqb (x .entry .row) (E .none) (omega arith)) (ap (ltb d) (sym (ap (λ (r : List ℕ). getD r 7 0) (h .0))))
+first-deeper E n t before d [] room long b h = rw (le-ltb (E .none * 8 + 7) (length t) (omega arith))
+first-deeper E n t before d (x ∷ xs) room long b h =
+    rw (lt-ltb (x .entry .row * 8 + 7) (length t) (omega arith)) (ap (ltb d) (sym (ap (λ (r : List ℕ). getD r 7 0) (h .0))))
 
 holds-after : (E : Edition) (g : ℕ → List ℕ) (before : ℕ) (pre : List Listed) (x : Listed) (post : List Listed) → Holds E g before (pre ++ x ∷ post) → Holds E g (x .entry .row) post
 holds-after E g before [] x post h = h .1
@@ -88,17 +90,18 @@ all-after : (P : ℕ → Type 0) (pre : List Listed) (x : Listed) (post : List L
 all-after P [] x post a = a .1
 all-after P (q ∷ pre) x post a = all-after P pre x post (a .1)
 
+-- the row that is listed next is in the table, and deeper
 pub children-test : (E : Edition) (s : State) → Fits E (rows E (s .m)) (s .forest) → (k : ℕ) → At k (s .forest)
     → hasChildren (s .forest) k
-    ≡ cond (eqb (word (write E s .table) k 5) (E .none)) false (ltb (word (write E s .table) k 7) (word (write E s .table) (word (write E s .table) k 5) 7))
+    ≡ (ltb (word (write E s .table) k 5 * 8 + 7) (length (write E s .table)) && ltb (word (write E s .table) k 7) (word (write E s .table) (word (write E s .table) k 5) 7))
 unfolding write
 children-test E s fits k p =
-    subst (λ (j : ℕ). hasChildren (s .forest) k ≡ cond (eqb (word t j 5) (E .none)) false (ltb (word t j 7) (word t (word t j 5) 7))) (p .row)
+    subst (λ (j : ℕ). hasChildren (s .forest) k ≡ (ltb (word t j 5 * 8 + 7) (length t) && ltb (word t j 7) (word t (word t j 5) 7))) (p .row)
     (children-deeper k (s .forest) p (fits .distinct)
-    ∙ first-deeper E (rows E (s .m)) (rowAt t) (p .entry .row) (depthOf 0 (p .around)) (listedAfter p) (fits .room)
+    ∙ first-deeper E (rows E (s .m)) t (p .entry .row) (depthOf 0 (p .around)) (listedAfter p) (fits .room) (written-at E s fits k p .long)
     (all-after (λ j. j < rows E (s .m)) (listedBefore p) (listedOf p) (listedAfter p) (below-at E s fits k p))
     (holds-after E (rowAt t) (E .none) (listedBefore p) (listedOf p) (listedAfter p) (written-at E s fits k p .holds))
-    ∙ (λ i. cond (eqb (sym (next-at E s fits k p) i) (E .none)) false (ltb (sym (depth-at E s fits k p) i) (word t (sym (next-at E s fits k p) i) 7))))
+    ∙ (λ i. ltb (sym (next-at E s fits k p) i * 8 + 7) (length t) && ltb (sym (depth-at E s fits k p) i) (word t (sym (next-at E s fits k p) i) 7)))
   where
     t : List ℕ
     t = T E s fits k p

@@ -5,11 +5,11 @@ use mathlib.Core.Bool.{Bool, true, false, cond}
 use mathlib.Core.List.{List, [], _∷_, _++_, map, map-append, List·Memᴰ·head, List·Memᴰ·tail, List·Memᴰ·not-nil}
 use lib.Dec.{eqb}
 use lib.ListN.{length, getD, set, length-map}
-use borrow.Author.Tests.{eq-eqb, ne-eqb, eqb-true, eqb-false}
+use borrow.Author.Tests.{ne-eqb, eqb-false}
 use Rattle.model.specs.declared.Cap.{Cap}
 use Rattle.model.specs.Edition.{Edition}
 use Rattle.model.specs.Tree.{Entry, Forest, end, tree, Deed, stays, leaves, put, edit}
-use Rattle.model.specs.Tables.{Listed, State, Tables, rows, word, firstOf, rowsFrom, listing, write}
+use Rattle.model.specs.Tables.{Listed, State, Tables, rows, firstOf, rowsFrom, listing, write}
 use Rattle.model.specs.Operations.{moved, rotated}
 use Rattle.model.proofs.Booleans.{either}
 use Rattle.model.proofs.Members.{All, all-mem, Has}
@@ -20,7 +20,8 @@ use Rattle.model.proofs.Words.ReadWrite.{rows-listing, fits-written}
 use Rattle.model.proofs.Words.Around.{At, at-has}
 use Rattle.model.proofs.Words.Edited.{at-listed, at-below, fits-list}
 use Rattle.model.proofs.Words.Moved.{movedTables, write-moved, fits-moved}
-use Rattle.model.proofs.Words.Swapped.{swapped, exchanged, turned, exchangedTable, first-turned, distinct-turned, below-turned, exchange-written}
+use Rattle.model.proofs.Words.Swapped.{swapped, exchanged, turned, exchangedTable}
+use Rattle.model.proofs.Words.Exchanged.{first-turned, distinct-turned, below-turned, exchange-written}
 
 -- ---- edits in which every entry stays in its place
 

@@ -10,16 +10,16 @@ use lib.Dec.{eqb}
 use lib.ListN.{length, getD}
 use lib.Pow.{pow-mono}
 use borrow.Author.Tests.{eq-eqb, eqb-true, eqb-false, not-true, not-false}
-use Rattle.model.specs.Lists.{allTrue, count, within}
+use Rattle.model.specs.Lists.{allTrue, count}
 use Rattle.model.specs.Edition.{Edition, edition32}
 use Rattle.model.specs.Cap.{isEmpty}
-use Rattle.model.specs.Tree.{Entry, Forest, entries}
+use Rattle.model.specs.Tree.{Entry, entries}
 use Rattle.model.specs.Tables.{Listed, State, Tables, rows, capOf, firstOf, zeroRow, rowsFrom, follow, grown, listing, read, write}
 use Rattle.model.specs.Rules.{mInRange, rInRange, lengthsFit, controlAllowed, capAllowed, rowAllowed, occupied, tableAllowed, forestAllowed, wellFormed}
 use Rattle.model.proofs.Booleans.{and-left, and-right, and-intro, part, within-parts}
-use Rattle.model.proofs.Members.{All, all-map, all-both, length-map}
+use Rattle.model.proofs.Members.{All, all-map, length-map}
 use Rattle.model.proofs.Distinct.{Fresh, Distinct, listed-all, count-listed}
-use Rattle.model.proofs.State.{rowsOf, Fits, Fine, Sound, Good}
+use Rattle.model.proofs.State.{Fits, Fine, Good}
 use Rattle.model.proofs.Words.Listing.{listing-grown, steps-listing}
 use Rattle.model.proofs.Words.Rows.{rowAt, rowsIn, capFrom, Holds, Written, written-is, length-rowsFrom}
 use Rattle.model.proofs.Words.ReadWrite.{entries-listing, rows-listing, fits-written, read-write}

@@ -1,0 +1,16 @@
+-- Both tests, the first of which decides where it fails.
+use borrow.Author.Tests.{le-leb, lt-leb}
+use Rattle.model.specs.Lists.{within}
+use Rattle.core.proofs.booting.within.Statement.{statement}
+use Rattle.core.proofs.booting.within.Tie as tie
+
+returns : tie.Need-returns
+unfolding within
+returns c = rw (le-leb _ _ (c .if1 .taken))
+
+returns-2 : tie.Need-returns-2
+unfolding within
+returns-2 c = rw (lt-leb _ _ (c .if1 .left))
+
+pub within-spec : {M : Type 1} → statement M
+within-spec = tie.close (tie.spec returns returns-2)
