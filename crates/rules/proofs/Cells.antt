@@ -1,15 +1,14 @@
 -- Objects by the cells that they cover: two are disjoint exactly if no cell is in both.
-use Prim.Native.Nat.{ℕ, _+_, _*_, _/_, _≤_, _<_}
-use mathlib.Core.Path.{_≡_, refl, sym, ap, ap₂, _∙_}
-use mathlib.Core.Bool.{Bool, true, false}
+use Prim.Native.Nat.{ℕ, _+_, _*_, _≤_, _<_}
+use mathlib.Core.Path.{_≡_}
+use mathlib.Core.Bool.{true}
 use native.Mathlib.Omega.{arith}
-use lib.Dec.{leb}
 use Rattle.model.specs.declared.Cap.{Cap}
 use Rattle.model.specs.Edition.{Edition}
 use Rattle.model.specs.Cap.{isUntyped, bytes, limit, disjoint, sameObject}
 use Rattle.model.specs.Rules.{insideBelow}
 use Rattle.model.proofs.Distinct.{Order, less, same, more, order}
-use Rattle.model.proofs.Kept.Objects.{Same, same-parts, ends-before, starts-after, disjoint-cases, inside-parts, Mark}
+use Rattle.model.proofs.Kept.Objects.{same-parts, ends-before, starts-after, disjoint-cases, inside-parts, Mark}
 use Rattle.rules.specs.Owners.{firstCell, cells}
 
 -- cell k is one of the object's

@@ -2,28 +2,26 @@
 -- whoever names a typed object finds it, and each new owner covers what it owns.
 use Prim.Native.Nat.{ℕ, _+_, _≤_, _<_}
 use mathlib.Core.Path.{_≡_, refl, sym, ap, _∙_, subst}
-use mathlib.Core.Bool.{Bool, true, false, cond, _&&_, true≢false}
+use mathlib.Core.Bool.{true, false, true≢false}
 use mathlib.Core.List.{List, [], _∷_, _++_, List·Memᴰ·head, List·Memᴰ·tail, List·Memᴰ·not-nil}
 use mathlib.Core.Logic.{_⊎_, inl, inr, ⊎-elim}
 use native.Mathlib.Omega.{arith}
 use lib.ListN.{getD, length}
 use Rattle.model.specs.declared.Cap.{Cap}
-use Rattle.model.specs.Lists.{all}
 use Rattle.model.specs.Edition.{Edition}
-use Rattle.model.specs.Cap.{isUntyped, sameObject, apart}
+use Rattle.model.specs.Cap.{isUntyped, sameObject}
 use Rattle.model.specs.Tree.{Entry, Forest, end, tree, entries}
 use Rattle.model.specs.Tables.{rows, word, capOf}
-use Rattle.model.specs.Rules.{insideBelow}
 use Rattle.model.proofs.Booleans.{either}
 use Rattle.model.proofs.Members.{Has}
 use Rattle.model.proofs.Kept.Objects.{same-refl, same-trans, same-typed}
 use Rattle.model.proofs.Kept.Forests.{three, in-below, in-after}
-use Rattle.rules.specs.Owners.{Owners, owners, goOn, capUp, enter}
+use Rattle.rules.specs.Owners.{capUp, enter}
 use Rattle.rules.proofs.Cells.{Covers, Celled, same-covers}
-use Rattle.rules.proofs.Outcome.{Outcome, keeps, breaks, by-test, and-then, ends-in}
-use Rattle.rules.proofs.Held.{level, level-row, Holder, At, free, held, Ready, if-covered, at-other, at-child}
+use Rattle.rules.proofs.Outcome.{Outcome, keeps, by-test, and-then, ends-in}
+use Rattle.rules.proofs.Held.{level, level-row, Holder, At, free, held, Ready, if-covered, at-child}
 use Rattle.rules.proofs.Entering.{covered, Entered, entering}
-use Rattle.rules.proofs.Placed.{Here, Placed, up-row, treeWalk, joins, family}
+use Rattle.rules.proofs.Placed.{Placed, up-row, treeWalk, joins, family}
 
 module _ (E : Edition) (m : ℕ) (t : List ℕ) where
   -- ---- what is known after a walk

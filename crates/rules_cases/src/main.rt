@@ -14,7 +14,18 @@ fn line(text: &[u8], good: bool) {
 }
 
 // Row k with other words.
-fn put(t: &mut [u32; 512], k: usize, kind: u32, address: u32, size: u32, third: u32, fourth: u32, next: u32, last: u32, depth: u32)
+fn put(
+    t: &mut [u32; 512],
+    k: usize,
+    kind: u32,
+    address: u32,
+    size: u32,
+    third: u32,
+    fourth: u32,
+    next: u32,
+    last: u32,
+    depth: u32,
+)
     requires { ⌜ k < 64 ⌝ }
 {
     let at = k * 8;
@@ -47,19 +58,23 @@ fn after_case_1() -> [u32; 512] {
     t
 }
 
+// The verdict on tables.
+fn verdict(t: [u32; 512], control: [u32; 4]) -> bool {
+    rules::check(&t, &control)
+}
+
 // The verdict on the state after case 1 with another word in a row.
 fn with_word(k: usize, i: usize, w: u32) -> bool
     requires { ⌜ (k < 64) × (i < 8) ⌝ }
 {
     let mut t = after_case_1();
     t[k * 8 + i] = w;
-    rules::check(&t, &[10, 4, 0, 5])
+    verdict(t, [10, 4, 0, 5])
 }
 
 // The verdict on the state after case 1 with other control words.
 fn with_control(control: [u32; 4]) -> bool {
-    let t = after_case_1();
-    rules::check(&t, &control)
+    verdict(after_case_1(), control)
 }
 
 // The verdict on the state after case 1 with a row more after row 4.
@@ -68,9 +83,20 @@ fn with_row(k: u32, kind: u32, address: u32, size: u32, fourth: u32, depth: u32)
 {
     let mut t = after_case_1();
     t[37] = k;
-    put(&mut t, k as usize, kind, address, size, 0, fourth, 2, 4, depth);
+    put(
+        &mut t,
+        k as usize,
+        kind,
+        address,
+        size,
+        0,
+        fourth,
+        2,
+        4,
+        depth,
+    );
     t[22] = k;
-    rules::check(&t, &[10, 4, 0, 6])
+    verdict(t, [10, 4, 0, 6])
 }
 
 // The verdict on an Untyped in row 5 that covers the one in row 1, with rows 3 and 4 at depths 2 and d below it.
@@ -81,7 +107,7 @@ fn nested(d: u32) -> bool {
     put(&mut t, 3, 5, 256, 2, 0, 0, 4, 5, 2);
     put(&mut t, 4, 5, 320, 2, 0, 0, 2, 3, d);
     put(&mut t, 2, 1, 512, 9, 0, 0, NONE, 4, 0);
-    rules::check(&t, &[10, 4, 0, 6])
+    verdict(t, [10, 4, 0, 6])
 }
 
 // The verdict on an Endpoint in row k, made from the Untyped in row 2.
@@ -91,19 +117,25 @@ fn endpoint_in(k: u32) -> bool
     let mut t = after_case_1();
     put(&mut t, 2, 1, 512, 9, 16, 0, k, 4, 0);
     put(&mut t, k as usize, 3, 512, 4, 0, 7, NONE, 2, 1);
-    rules::check(&t, &[10, 4, 0, 6])
+    verdict(t, [10, 4, 0, 6])
 }
 
 fn sound() {
-    line(b"no row", rules::check(&[0u32; 512], &[10, 4, NONE, 0]));
-    line(b"boot", rules::check(&booted(), &[10, 4, 0, 3]));
-    line(b"case 1", rules::check(&after_case_1(), &[10, 4, 0, 5]));
+    line(b"no row", verdict([0u32; 512], [10, 4, NONE, 0]));
+    line(b"boot", verdict(booted(), [10, 4, 0, 3]));
+    line(b"case 1", verdict(after_case_1(), [10, 4, 0, 5]));
     line(b"a guard of 18 bits", with_word(0, 3, 262143));
     line(b"a boot radix of 5", with_control([10, 5, 0, 5]));
     line(b"siblings that name one CNode", with_word(4, 1, 256));
-    line(b"siblings that name one CNode, another between", with_row(5, 5, 256, 2, 0, 1));
+    line(
+        b"siblings that name one CNode, another between",
+        with_row(5, 5, 256, 2, 0, 1),
+    );
     line(b"a copy of a CNode", with_row(5, 5, 320, 2, 0, 2));
-    line(b"two rows of depth 0 for one CNode", with_row(5, 5, 0, 4, 28, 0));
+    line(
+        b"two rows of depth 0 for one CNode",
+        with_row(5, 5, 0, 4, 28, 0),
+    );
     line(b"an Untyped in an Untyped", nested(2));
     line(b"an Endpoint in the boot CNode", endpoint_in(5));
     line(b"an Endpoint in the CNode of row 4", endpoint_in(20));
@@ -152,12 +184,18 @@ fn list() {
 }
 
 fn rows_against_rows() {
-    line(b"a child that ends past the watermark", with_word(1, 3, 112));
+    line(
+        b"a child that ends past the watermark",
+        with_word(1, 3, 112),
+    );
     line(b"a child before its Untyped", with_word(4, 1, 192));
     line(b"a child of a CNode for another CNode", with_word(4, 7, 2));
     line(b"an Untyped over a sibling", with_row(5, 1, 256, 6, 0, 1));
     line(b"an Untyped inside a sibling", with_row(5, 1, 272, 4, 0, 1));
-    line(b"two rows of depth 0 for one Untyped", with_row(5, 1, 512, 9, 0, 0));
+    line(
+        b"two rows of depth 0 for one Untyped",
+        with_row(5, 1, 512, 9, 0, 0),
+    );
     line(b"a CNode over the boot CNode", with_row(5, 5, 0, 3, 28, 0));
     line(b"a sibling of the Untyped that holds its object", nested(1));
     line(b"a row in an Untyped", endpoint_in(40));
