@@ -69,9 +69,6 @@ module _ {E : Edition} (sane : Sane E) where
     pub memory-covers : (m k : ℕ) → 4 ≤ m → Covers E (memory m) k → k < rows E m
     memory-covers m k h v = omega (arith, v .high, memory-first m, memory-cells m h)
 
-    pub rows-covered : (m k : ℕ) → 4 ≤ m → k < rows E m → Covers E (memory m) k
-    rows-covered m k h l = record { low = omega (arith, memory-first m); high = omega (arith, memory-cells m h) }
-
     module _ (c : Cap) (node : isCNode c ≡ true) where
       as-slots : cells E c ≡ slots c
       unfolding cells
