@@ -7,25 +7,25 @@ use mathlib.Core.List.{List, [], _++_, _∷_}
 use lib.Dec.{eqb}
 use Rattle.model.specs.declared.Answer.{Answer}
 use Rattle.model.specs.Lists.{shareNone}
-use Rattle.model.specs.Edition.{Edition, edition32}
+use Rattle.model.specs.Edition.{Edition}
 use Rattle.model.specs.Cap.{isCNode}
 use Rattle.model.specs.Tree.{Forest, capAt}
 use Rattle.model.specs.Check.{Check, passed, refused, _>>=_}
 use Rattle.model.specs.Tables.{State, Tables, read, write}
 use Rattle.model.specs.Rules.{wellFormed}
 use Rattle.model.specs.Operations.{Done}
-use Rattle.model.specs.Request.{Outcome, applied, carriedOut, concluded, request, served}
+use Rattle.model.specs.Request.{applied, carriedOut, concluded, request, served}
 use Rattle.model.specs.Tenants.{Sent, by, estateIn, inTurn, tablesAfter, toldOn}
 use Rattle.model.proofs.Members.{All, Has}
 use Rattle.model.proofs.State.{Good}
-use Rattle.model.proofs.Kept.Figures.{Sane, sane32}
+use Rattle.model.proofs.Kept.Figures.{Sane}
 use Rattle.model.proofs.Kept.Serving.{served-good}
 use Rattle.model.proofs.Separation.Merge.{answersTo, forestAfter, stepped}
 use Rattle.model.proofs.Separation.Steps.{didOf, edited}
 use Rattle.model.proofs.Separation.Tenants.{asked, tenants-answers, tenants-forest}
 use Rattle.model.proofs.Separation.Two.{tenants-apart}
 use Rattle.model.proofs.Words.ReadWrite.{read-write}
-use Rattle.model.proofs.Words.WellFormed.{Roomy, formed-write, good-fits, good-read, roomy32, write-read}
+use Rattle.model.proofs.Words.WellFormed.{Roomy, formed-write, good-fits, good-read, write-read}
 
 -- a state with another forest
 abbrev withForest : State → Forest → State
@@ -110,8 +110,3 @@ separation {E} law sane t wf a b rootA rootB none zs ours =
       second = told-are law sane t wf b zs ∙ u .second ∙ sym (told-are law sane t wf b (by b zs));
       tables = tables-are law sane t wf zs ∙ ap (λ f. write E (withForest (read E t) f)) (u .forest) ∙ sym (tables-are law sane t wf (by a zs ++ by b zs));
     }
-
-pub separation32 : (t : Tables) → wellFormed edition32 t ≡ true → (a b : ℕ) → isCNode (capAt (read edition32 t .forest) a) ≡ true → isCNode (capAt (read edition32 t .forest) b) ≡ true
-    → shareNone (estateIn edition32 t a) (estateIn edition32 t b) ≡ true
-    → (zs : List (Sent (List ℕ))) → All (λ z. Has (z .caller) (a ∷ b ∷ [])) zs → UndisturbedOn edition32 t a b zs
-separation32 = separation roomy32 sane32
