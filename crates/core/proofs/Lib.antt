@@ -1,2 +1,5 @@
+mod CommonOrder
+mod Carried
+mod Performed
 mod BootRows
 mod BootAnswers

@@ -1,1 +1,3 @@
 pub mod Booting
+pub mod Asking
+pub mod Serving

@@ -1,6 +1,8 @@
 // The core's face: boot, a request, and the six words of an answer.
+mod asking;
 mod booting;
 mod message;
+mod performing;
 
 use model::Answer;
 use model::Failure;

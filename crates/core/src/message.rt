@@ -5,12 +5,12 @@ ghost use mathlib.Core.Path.{_≡_};
 ghost use lib.ListN.{getD};
 ghost use Rattle.model.specs.Request as spec;
 
-// Word i of a message, 0 past its end.
-pub fn word_at(message: &[u32], i: usize) -> u32
-    ensures { λ r. ⌜ r ≡ getD (now (message .entry)) i 0 ⌝ }
+// Word i of a slice, 0 past its end.
+pub fn word_at(words: &[u32], i: usize) -> u32
+    ensures { λ r. ⌜ r ≡ getD (now (words .entry)) i 0 ⌝ }
 {
-    if i < message.len() {
-        return message[i];
+    if i < words.len() {
+        return words[i];
     }
     0
 }

@@ -28,16 +28,22 @@ same-row j k e = cc
 never : (a : Answer) (k : Row) → Refused a ≡ At k → ⊥
 never a k e = let z : _≡_ {A = ℕ} 0 1 = cc in omega arith
 
+-- ---- a row, and a refusal
+
+pub finds-at : (t : List ℕ) (c : Check ℕ) (k : Row) → c ≡ passed (k .0) → k .0 * 8 + 8 ≤ length t → Finds t c (At k)
+finds-at t c k e inside =
+    record { is = sym e; inside = λ j same. subst (λ (i : Row). i .0 * 8 + 8 ≤ length t) (same-row k j same) inside }
+
+pub finds-none : (t : List ℕ) (c : Check ℕ) (a : Answer) → c ≡ refused a → Finds t c (Refused a)
+finds-none t c a e = record { is = sym e; inside = λ k same. absurd (never a k same) }
+
 -- `told` is what the definition makes of a lookup
 module _ (t : List ℕ) (root : Cap) (address depth : ℕ) (told : Looked → Check ℕ) where
   pub finds-row : Ready t → (isCNode root ≡ true → Usable t root) → (k : Row) → told (Slot k) ≡ passed (k .0) → lookup edition32 (capOf t) root address depth ≡ Slot k
       → Finds t (told (lookup edition32 (capOf t) root address depth)) (At k)
   finds-row ready usable k row found =
-      record {
-        is = sym (ap told found ∙ row);
-        inside = λ j e. subst (λ (i : Row). i .0 * 8 + 8 ≤ length t) (same-row k j e) (found-in-table t ready root usable address depth k found);
-      }
+      finds-at t (told (lookup edition32 (capOf t) root address depth)) k (ap told found ∙ row) (found-in-table t ready root usable address depth k found)
 
   pub finds-refusal : (a : Answer) (l : Looked) → told l ≡ refused a → lookup edition32 (capOf t) root address depth ≡ l
       → Finds t (told (lookup edition32 (capOf t) root address depth)) (Refused a)
-  finds-refusal a l refusal found = record { is = sym (ap told found ∙ refusal); inside = λ k e. absurd (never a k e) }
+  finds-refusal a l refusal found = finds-none t (told (lookup edition32 (capOf t) root address depth)) a (ap told found ∙ refusal)

@@ -1,4 +1,4 @@
 mod Levels
 pub mod WellFormed
 pub mod InTable
-mod Finding
+pub mod Finding

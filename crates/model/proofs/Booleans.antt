@@ -39,6 +39,14 @@ and-right false c h = absurd (false≢true h)
 pub and-intro : {b c : Bool} → b ≡ true → c ≡ true → (b && c) ≡ true
 and-intro h k = ap₂ _&&_ h k
 
+pub or-none : (b c : Bool) → (b || c) ≡ false → (b ≡ false) × (c ≡ false)
+or-none true c h = absurd (true≢false h)
+or-none false c h = (refl, h)
+
+pub and-none : (b c : Bool) → (b && c) ≡ false → b ≡ true → c ≡ false
+and-none true c h t = h
+and-none false c h t = absurd (false≢true t)
+
 -- a test of a list in which each holds
 pub part : (bs : List Bool) (i : ℕ) → allTrue bs ≡ true → getD bs i true ≡ true
 unfolding allTrue

@@ -19,5 +19,8 @@ pub mod NewObjects
 pub mod Retyping
 pub mod Lookups
 pub mod Walk
+pub mod Requests
 pub mod Serving
 pub mod Memory
+pub mod Reuse
+pub mod Booting

@@ -3,7 +3,10 @@ pub mod Members
 pub mod Distinct
 pub mod State
 pub mod Order
+pub mod Tempting
 pub mod Words
 pub mod Removal
 pub mod Kept
 pub mod Separation
+pub mod Transfer
+pub mod Retype

@@ -84,6 +84,11 @@ module _ {A : Type 0} where
   has-keep p {x} (List·Memᴰ·head {x = y} {xs = ys} e) t = rw (ap p (sym e) ∙ t) (List·Memᴰ·head e)
   has-keep p (List·Memᴰ·tail {x = y} {xs = ys} m) t = either (p y) (λ u. rw u (List·Memᴰ·tail (has-keep p m t))) (λ f. rw f (has-keep p m t))
 
+  pub keep-ext : (p q : A → Bool) (xs : List A) → ((x : A) → Has x xs → p x ≡ q x) → keep p xs ≡ keep q xs
+  unfolding keep
+  keep-ext p q [] h = refl
+  keep-ext p q (x ∷ xs) h = rw (h x (List·Memᴰ·head refl), keep-ext p q xs (λ y m. h y (List·Memᴰ·tail m)))
+
   pub keep-keep : (p q r : A → Bool) (xs : List A) → ((x : A) → Has x xs → p x ≡ (q x && r x)) → keep p xs ≡ keep r (keep q xs)
   unfolding keep
   keep-keep p q r [] h = refl

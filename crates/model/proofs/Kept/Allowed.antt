@@ -1,7 +1,7 @@
 -- What is said of a capability that is allowed by itself, and of the slots of an allowed CNode.
-use Prim.Native.Nat.{_%_, _*_, _+_, _-_, _/_, _<_, _^_, _≤_, suc, ℕ}
-use mathlib.Core.Bool.{_&&_, false, true}
-use mathlib.Core.Path.{_∙_, _≡_, ap, refl, sym}
+use Prim.Native.Nat.{suc, ℕ, _%_, _*_, _+_, _-_, _/_, _<_, _^_, _≤_}
+use mathlib.Core.Path.{ap, refl, sym, _∙_, _≡_}
+use mathlib.Core.Bool.{false, true, _&&_}
 use native.Mathlib.Nat.{add-mul, mul-le-mul-right, suc-mul}
 use native.Mathlib.Omega.{arith}
 use lib.Dec.{eqb, leb, ltb}
@@ -19,10 +19,6 @@ use Rattle.model.proofs.Kept.Objects.{Mark, Same}
 use Rattle.model.proofs.Kept.Powers.{exact, exponent-le, split}
 
 module _ (E : Edition) (m : ℕ) (c : Cap) where
-  pub of-allowed : leb (c .kind) 6 ≡ true → sizeAllowed E m c ≡ true → placeAllowed E m c ≡ true → thirdAllowed E c ≡ true → fourthAllowed E c ≡ true → capAllowed E m c ≡ true
-  unfolding capAllowed allTrue
-  of-allowed k s p t f = and-intro k (and-intro s (and-intro p (and-intro t (and-intro f refl))))
-
   module _ (h : capAllowed E m c ≡ true) where
     pub size-of : sizeAllowed E m c ≡ true
     unfolding capAllowed
@@ -58,19 +54,24 @@ module _ (E : Edition) (m : ℕ) (c : Cap) where
     unfolding sizeAllowed
     untyped-size t = within-parts (E .leastUntyped) (c .size) (m - 1) (rw t at size-of)
 
+module _ (E : Edition) (m : ℕ) where
+  pub of-allowed : (c : Cap) → leb (c .kind) 6 ≡ true → sizeAllowed E m c ≡ true → placeAllowed E m c ≡ true → thirdAllowed E c ≡ true → fourthAllowed E c ≡ true → capAllowed E m c ≡ true
+  unfolding capAllowed allTrue
+  of-allowed c k s p t f = and-intro k (and-intro s (and-intro p (and-intro t (and-intro f refl))))
+
   -- with other third and fourth words
-  pub re-allowed : (d : Cap) → Same c d → thirdAllowed E d ≡ true → fourthAllowed E d ≡ true → capAllowed E m c ≡ true → capAllowed E m d ≡ true
+  pub re-allowed : (c d : Cap) → Same c d → thirdAllowed E d ≡ true → fourthAllowed E d ≡ true → capAllowed E m c ≡ true → capAllowed E m d ≡ true
   unfolding capAllowed
-  re-allowed d p t f h = of-allowed′ (carry (part _ 0 h) (part _ 1 h) (part _ 2 h))
+  re-allowed c d p t f h = of-allowed d (kind (part _ 0 h)) (size (part _ 1 h)) (place (part _ 2 h)) t f
     where
-      Carried : Cap → Type 0
-      Carried x = (leb (x .kind) 6 ≡ true) × (sizeAllowed E m x ≡ true) × (placeAllowed E m x ≡ true)
+      kind : leb (c .kind) 6 ≡ true → leb (d .kind) 6 ≡ true
+      kind h = rw (← (p .kinds)) h
 
-      carry : leb (c .kind) 6 ≡ true → sizeAllowed E m c ≡ true → placeAllowed E m c ≡ true → Carried d
-      carry k s l = unfold sizeAllowed placeAllowed bytes limit isUntyped isCNode in rw (← (p .kinds), ← (p .addresses), ← (p .sizes)) (k, s, l)
+      size : sizeAllowed E m c ≡ true → sizeAllowed E m d ≡ true
+      size h = unfold sizeAllowed isUntyped isCNode in rw (← (p .kinds), ← (p .sizes)) h
 
-      of-allowed′ : Carried d → capAllowed E m d ≡ true
-      of-allowed′ x = unfold capAllowed allTrue in and-intro (x .0) (and-intro (x .1) (and-intro (x .2) (and-intro t (and-intro f refl))))
+      place : placeAllowed E m c ≡ true → placeAllowed E m d ≡ true
+      place h = unfold placeAllowed bytes limit in rw (← (p .kinds), ← (p .addresses), ← (p .sizes)) h
 
 pub cnode-filled : (c : Cap) → isCNode c ≡ true → isEmpty c ≡ false
 unfolding isCNode isEmpty
@@ -86,6 +87,7 @@ untyped-filled c t = rw (eqb-true (c .kind) 1 t)
 
 -- ---- the slots of a CNode
 
+-- row k is a slot of the CNode that c names
 pub record Houses (E : Edition) (c : Cap) (k : ℕ) : Type 0 where
   pub cnode : isCNode c ≡ true
   pub low : firstRow E c ≤ k

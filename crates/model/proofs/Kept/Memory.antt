@@ -1,9 +1,9 @@
 -- Memory on a sound forest: what stands below a capability, and that two capabilities neither of which is below the other are apart.
-use Prim.Native.Nat.{_+_, _<_, _≤_, ℕ}
+use Prim.Native.Nat.{ℕ, _+_, _<_, _≤_}
+use mathlib.Core.Path.{refl, sym, _∙_, _≡_}
 use mathlib.Core.Bool.{false, true}
 use mathlib.Core.List.{List·Memᴰ·head, List·Memᴰ·not-nil, List·Memᴰ·tail}
-use mathlib.Core.Logic.{_⊎_, inl, inr}
-use mathlib.Core.Path.{_∙_, _≡_, refl, sym}
+use mathlib.Core.Logic.{inl, inr, _⊎_}
 use native.Mathlib.Omega.{arith}
 use Rattle.model.specs.declared.Cap.{Cap}
 use Rattle.model.specs.Edition.{Edition}

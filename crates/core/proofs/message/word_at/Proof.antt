@@ -1,4 +1,4 @@
--- Past the end of a message both are 0.
+-- Past the end of a slice both are 0.
 use mathlib.Core.Path.{sym}
 use lib.ListN.{List·getD-eq-default}
 use borrow.Author.Needs.{needs}
@@ -15,7 +15,7 @@ returns : tie.Need-returns
 returns c = search needs
 
 returns-2 : tie.Need-returns-2
-returns-2 c = sym (List·getD-eq-default (c .before .args .message .now) 0 (c .if1 .left))
+returns-2 c = sym (List·getD-eq-default (c .before .args .words .now) 0 (c .if1 .left))
 
 pub word-at-spec : {M : Type 1} → statement M
 word-at-spec = tie.close (tie.spec mul-result shared-slice-read-result returns returns-2)

@@ -1,0 +1,106 @@
+-- What well-formed tables say of their CNodes, and that a set of rows is closed by the table's capabilities just if it is by the tree's entries.
+use Prim.Native.Nat.{ℕ, _+_, _-_, _*_, _/_, _^_, _≤_, _<_}
+use mathlib.Core.Path.{_≡_, refl, sym, ap, _∙_, subst}
+use mathlib.Core.Bool.{Bool, true, false, true≢false}
+use native.Mathlib.Omega.{arith}
+use lib.Dec.{eqb, leb}
+use lib.ListN.{length, getD}
+use borrow.Author.Tests.{eqb-true, leb-true, leb-false}
+use Rattle.model.specs.declared.Cap.{Cap}
+use Rattle.model.specs.Edition.{edition32}
+use Rattle.model.specs.Cap.{isEmpty, isUntyped, isCNode, firstRow, slots, bytes, limit, sameObject, houses}
+use Rattle.model.specs.Tree.{Entry, Forest, entries, capAt}
+use Rattle.model.specs.Tables.{Tables, rows, capOf, read}
+use Rattle.model.specs.Rules.{wellFormed}
+use Rattle.model.proofs.Booleans.{either, and-left}
+use Rattle.model.proofs.Members.{Has}
+use Rattle.model.proofs.State.{Sound}
+use Rattle.model.proofs.Words.WellFormed.{roomy32, good-read}
+use Rattle.model.proofs.Words.Caps.{caps-read}
+use Rattle.model.proofs.Kept.Figures.{sane32, bytes-cnode}
+use Rattle.model.proofs.Kept.Memory.{Over, apart-over, typed-apart}
+use Rattle.model.proofs.Kept.Objects.{same-empty, same-parts}
+use Rattle.model.proofs.Kept.Removal.{Swept}
+use Rattle.model.proofs.Kept.Rules.{fine, known, entry-at, home-bound, slots-home}
+use Rattle.removal.specs.Marking.{Nodes, ClosedRows, rowCount}
+use Rattle.removal.proofs.Tables.{rowsOfTables, rows-small, table-long}
+use Rattle.removal.proofs.Spreading.{some-slot}
+
+pub cnode-there : (c : Cap) → isCNode c ≡ true → isEmpty c ≡ false
+unfolding isCNode isEmpty
+cnode-there c t = rw (eqb-true (c .kind) 5 t)
+
+cnode-typed : (c : Cap) → isCNode c ≡ true → isUntyped c ≡ false
+unfolding isCNode isUntyped
+cnode-typed c t = rw (eqb-true (c .kind) 5 t)
+
+-- the bytes that two CNodes with the same first row have in common
+limit-cnode : (c : Cap) → isCNode c ≡ true → c .address .0 + 16 ≤ limit edition32 c
+unfolding limit
+limit-cnode c t = omega (arith, bytes-cnode sane32 c t, some-slot c)
+
+meets : (c d : Cap) → isCNode c ≡ true → isCNode d ≡ true → firstRow edition32 c ≡ firstRow edition32 d → (p : ℕ) × Over edition32 p c × Over edition32 p d
+unfolding firstRow
+meets c d t u e =
+    let lc = limit-cnode c t in
+    let ld = limit-cnode d u in
+    let q : c .address .0 / 16 ≡ d .address .0 / 16 = e in
+    either (leb (c .address .0) (d .address .0))
+    (λ h. let l = leb-true (c .address .0) (d .address .0) h in (d .address .0, record { low = l; high = omega arith }, record { low = omega arith; high = omega arith }))
+    (λ h. let l = leb-false (c .address .0) (d .address .0) h in (c .address .0, record { low = omega arith; high = omega arith }, record { low = omega arith; high = omega arith }))
+
+module _ {m : ℕ} {f : Forest} (s : Sound edition32 m f) where
+  inside : (k : ℕ) → isCNode (capAt f k) ≡ true → firstRow edition32 (capAt f k) + slots (capAt f k) ≤ rows edition32 m
+  inside k t =
+      let last = slots (capAt f k) - 1 in
+      let b : firstRow edition32 (capAt f k) + last < rows edition32 m = home-bound s sane32 _ (slots-home s k t last (omega (arith, some-slot (capAt f k)))) in
+      omega (arith, some-slot (capAt f k))
+
+  alike : (j k : ℕ) → isCNode (capAt f j) ≡ true → isCNode (capAt f k) ≡ true → firstRow edition32 (capAt f j) ≡ firstRow edition32 (capAt f k) → sameObject (capAt f j) (capAt f k) ≡ true
+  alike j k t u e =
+      let (d, md, rd, qd) = entry-at s j (cnode-there (capAt f j) t) in
+      let (g, mg, rg, qg) = entry-at s k (cnode-there (capAt f k) u) in
+      let (p, o, q) = meets (capAt f j) (capAt f k) t u e in
+      let td : isUntyped (d .cap) ≡ false = rw (← qd) (cnode-typed (capAt f j) t) in
+      let tg : isUntyped (g .cap) ≡ false = rw (← qg) (cnode-typed (capAt f k) u) in
+      rw (qd, qg) (apart-over edition32 p (d .cap) (g .cap) (typed-apart s md mg td tg) (rw (← qd) o) (rw (← qg) q) .0)
+
+  -- a set closed by the rows is closed by the entries
+  pub closed-swept : (S : ℕ → Bool) → ClosedRows (rows edition32 m) (capAt f) S → Swept edition32 (entries f) (λ k. S k ≡ true)
+  closed-swept S closed n e mn me h names =
+      closed (n .row) (e .row) (fine s mn .inTable) (fine s me .inTable) (rw (known s mn) (houses-node (n .cap) (e .row) h)) (rw (known s mn) h) (rw (known s me) (fine s me .filled))
+      (λ j b same.
+      let same′ : sameObject (n .cap) (capAt f j) ≡ true = rw (known s mn) at same in
+      let there : isEmpty (capAt f j) ≡ false = sym (same-empty (same-parts (n .cap) (capAt f j) same′)) ∙ cnode-there (n .cap) (houses-node (n .cap) (e .row) h) in
+      let (d, md, rd, qd) = entry-at s j there in
+      subst (λ i. S i ≡ true) rd (names d md (rw (← qd) same′)))
+    where
+      houses-node : (c : Cap) (k : ℕ) → houses edition32 c k ≡ true → isCNode c ≡ true
+      houses-node c k h = unfold houses in and-left _ _ (and-left _ _ h)
+
+  pub swept-closed : (S : ℕ → Bool) → Swept edition32 (entries f) (λ k. S k ≡ true) → ClosedRows (rows edition32 m) (capAt f) S
+  swept-closed S swept c k bc bk node h o names =
+      let (n, mn, rn, qn) = entry-at s c (cnode-there (capAt f c) node) in
+      let (e, me, re, qe) = entry-at s k o in
+      subst (λ i. S i ≡ true) re
+      (swept n e mn me (rw (← qn, re) h) (λ d md same.
+      names (d .row) (fine s md .inTable) (rw (qn, known s md) same)))
+
+module _ (t : Tables) (well : wellFormed edition32 t ≡ true) where
+  pub sound : Sound edition32 (getD (t .control) 0 0) (read edition32 t .forest)
+  sound = unfold read in good-read edition32 roomy32 t well .sound
+
+  pub row-count : rowCount (t .table) ≡ rowsOfTables t
+  row-count = omega (arith, table-long t well)
+
+  pub caps : capOf (t .table) ≡ capAt (read edition32 t .forest)
+  caps = caps-read edition32 roomy32 t well
+
+  pub nodes : Nodes (rowCount (t .table)) (capOf (t .table))
+  nodes =
+      rw (row-count, caps)
+      (record {
+        few = rows-small t well;
+        inside = λ k b c. inside sound k c;
+        alike = λ j k bj bk tj tk e. alike sound j k tj tk e;
+      })

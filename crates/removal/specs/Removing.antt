@@ -1,0 +1,38 @@
+-- What a removal leaves of the tables.
+use Prim.Native.Nat.{ℕ, _+_}
+use mathlib.Core.Path.{_≡_}
+use mathlib.Core.Bool.{cond}
+use mathlib.Core.List.{List, [], _∷_}
+use lib.ListN.{length}
+use Rattle.model.specs.Lists.{member}
+use Rattle.model.specs.Edition.{edition32}
+use Rattle.model.specs.Cap.{isEmpty}
+use Rattle.model.specs.Tree.{edit, without, entries, capAt}
+use Rattle.model.specs.Tables.{Tables, read, write}
+use Rattle.model.specs.Operations.{remove, descendants}
+use Rattle.model.specs.Request.{Changed, applied}
+use Rattle.removal.specs.Marking.{marked}
+
+-- the marked rows are gone from the tables, `gone` of them
+pub record Thins (mark : List ℕ) (t t′ : Tables) (gone : ℕ) : Type 0 where
+  pub tables : (dead : List ℕ) → ((k : ℕ) → marked mark k ≡ member k dead)
+      → t′ ≡ write edition32 (record { m = read edition32 t .m; r = read edition32 t .r; forest = edit (without dead) (read edition32 t .forest) })
+  pub count : (dead : List ℕ) → ((k : ℕ) → marked mark k ≡ member k dead)
+      → gone + length (entries (edit (without dead) (read edition32 t .forest))) ≡ length (entries (read edition32 t .forest))
+
+-- the state and the count when the rows of `start` go, with all that follows
+abbrev pub afterRemoval : Tables → (start : List ℕ) → Changed
+afterRemoval t start = applied (read edition32 t) (remove edition32 (read edition32 t .forest) start)
+
+-- Delete starts from one occupied row
+abbrev pub target : Tables → (k : ℕ) → List ℕ
+target t k = cond (isEmpty (capAt (read edition32 t .forest) k)) [] (k ∷ [])
+
+-- Revoke from all descendants of a row
+abbrev pub offspring : Tables → (k : ℕ) → List ℕ
+offspring t k = descendants (read edition32 t .forest) k
+
+-- the answer's count and the tables are those of the removal
+pub record Removes (t t′ : Tables) (start : List ℕ) (gone : ℕ) : Type 0 where
+  pub count : gone ≡ afterRemoval t start .count
+  pub tables : t′ ≡ write edition32 (afterRemoval t start .state)

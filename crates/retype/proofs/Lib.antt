@@ -1,0 +1,13 @@
+pub mod Alignment
+pub mod Sizes
+pub mod Tests
+pub mod Windows
+pub mod Passed
+pub mod Slots
+pub mod Run
+pub mod Making
+pub mod Bytes
+pub mod Untyped
+pub mod Allotment
+pub mod Whole
+pub mod Served

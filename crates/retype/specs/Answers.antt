@@ -1,0 +1,22 @@
+-- What the tests of Retype come to, as the definitions have it.
+use Prim.Native.Nat.{ℕ}
+use Rattle.model.specs.declared.Cap.{Cap}
+use Rattle.model.specs.Check.{Check, passed, refused}
+use Rattle.retype.specs.declared.Judged.{Judged}
+use Rattle.retype.specs.declared.Judged.the-variants as judged
+use Rattle.retype.specs.declared.Memory.{Memory}
+use Rattle.retype.specs.declared.Memory.the-variants as memory
+use Rattle.retype.specs.declared.Taker.{Taker}
+use Rattle.retype.specs.declared.Taker.the-variants as taker
+
+abbrev pub ofJudged : Judged → Check (Unit {0})
+ofJudged judged.Passed = passed tt
+ofJudged (judged.Barred a) = refused a
+
+abbrev pub ofTaker : Taker → Check Cap
+ofTaker (taker.Is c) = passed c
+ofTaker (taker.Refused a) = refused a
+
+abbrev pub ofMemory : Memory → Check ℕ
+ofMemory (memory.From at) = passed at
+ofMemory (memory.Refused a) = refused a

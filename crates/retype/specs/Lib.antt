@@ -1,0 +1,4 @@
+pub mod Window
+pub mod Answers
+pub mod Laid
+pub mod Allotting

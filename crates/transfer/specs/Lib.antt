@@ -1,0 +1,4 @@
+pub mod Altered
+pub mod Lent
+pub mod Ways
+pub mod Turns
