@@ -2,7 +2,9 @@
 mod command; // command.rt: what a line asks for
 mod line; // line.rt: a line, read byte by byte
 mod output; // output.rt: text that is written
+mod estate; // estate.rt: a tenant's estate
 mod show; // show.rt: the tables as text
+mod tree; // tree.rt: the derivation tree, drawn
 
 use crate::command::Desk;
 use crate::command::obey;
