@@ -1,4 +1,6 @@
 // A line of the console's language, read byte by byte: whatever its length, what is kept of it has a fixed size.
+ghost use mathlib.Core.Path.{_≡_};
+ghost use Rattle.console.specs.Decimal.{withByte};
 
 // Where in a line the next byte stands: at its start, in a comment, in the blanks before the first word, in that word, in the blanks after
 // a word, in a number.
@@ -57,18 +59,36 @@ fn spell(mut line: Line, byte: u8) -> Line {
     line
 }
 
+// What bytes say as a number.
+pub enum Reading {
+    Number(u32),
+    NoNumber,
+}
+
+// A number with one more byte.
+fn with_byte(value: u32, byte: u8) -> Reading
+    ensures { λ r. ⌜ r ≡ withByte value byte ⌝ }
+{
+    if byte < 48 {
+        return Reading::NoNumber;
+    }
+    if 57 < byte {
+        return Reading::NoNumber;
+    }
+    let longer = value as u64 * 10 + (byte - 48) as u64;
+    if longer < 4294967296 {
+        return Reading::Number(longer as u32);
+    }
+    Reading::NoNumber
+}
+
 // One more byte of a number.
 fn digit(mut line: Line, byte: u8) -> Line {
     line.place = NUMBER;
-    if byte < 48 || 57 < byte {
-        line.bad = true;
-        return line;
-    }
-    let value = line.value as u64 * 10 + (byte - 48) as u64;
-    if value < 4294967296 {
-        line.value = value as u32;
-    } else {
-        line.bad = true;
+    let reading = with_byte(line.value, byte);
+    match reading {
+        Reading::Number(value) => line.value = value,
+        Reading::NoNumber => line.bad = true,
     }
     line
 }
