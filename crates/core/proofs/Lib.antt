@@ -1,5 +1,6 @@
 mod CommonOrder
 mod Carried
 mod Performed
+mod Gone
 mod BootRows
 mod BootAnswers

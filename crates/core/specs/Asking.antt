@@ -30,10 +30,10 @@ asked caps caller message = do
 -- what a message asks of Retype, with its root in row `root`
 unfoldable pub retypingBy : (caps : ℕ → Cap) → (message : List ℕ) → (root : ℕ) → Retyping
 retypingBy caps message root =
-    record
-    { object = getD message 2 0
-    ; size = getD message 3 0
-    ; into = place (caps root) message 5 false
-    ; offset = getD message 7 0
-    ; window = getD message 8 0
+    record {
+      object = getD message 2 0;
+      size = getD message 3 0;
+      into = place (caps root) message 5 false;
+      offset = getD message 7 0;
+      window = getD message 8 0;
     }

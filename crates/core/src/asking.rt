@@ -1,4 +1,8 @@
 // Who is asked: the service that a message names, and the roots after it.
+use crate::message::invokes;
+use crate::message::operation_of;
+use crate::message::word_at;
+use crate::message::words_of;
 use lookup::Found;
 use lookup::named;
 use model::Address;
@@ -8,10 +12,6 @@ use model::Place;
 use model::Retyping;
 use model::Row;
 use table::cap_at;
-use crate::message::invokes;
-use crate::message::operation_of;
-use crate::message::word_at;
-use crate::message::words_of;
 ghost use mathlib.Core.Path.{_≡_};
 ghost use Prim.Native.Nat.{_+_, _*_, _≤_};
 ghost use lib.ListN.{length};
@@ -40,7 +40,12 @@ pub fn row_named(table: &[u32], caller: u32, message: &[u32], at: u32) -> Found
     requires { ⌜ Ready (now table) ⌝ }
     ensures { λ r. ⌜ Finds (now (table .entry)) (asking.rowNamedBy (tables.capOf (now (table .entry))) caller (now (message .entry)) at) r ⌝ }
 {
-    named(table, cap_or_nothing(table, caller), word_at(message, at as usize), at)
+    named(
+        table,
+        cap_or_nothing(table, caller),
+        word_at(message, at as usize),
+        at,
+    )
 }
 
 // The service that a message asks, once it may be asked.

@@ -1,16 +1,96 @@
 // What each operation is asked: its roots in message order, then what it does.
 use crate::asking;
 use lookup::Found;
+use lookup::find;
 use model::Answer;
+use model::Change;
 use model::Row;
 ghost use mathlib.Core.Path.{_≡_};
-ghost use mathlib.Core.Bool.{true};
+ghost use mathlib.Core.Bool.{true, false};
 ghost use Rattle.model.specs.Edition.{edition32};
 ghost use Rattle.model.specs.Cap as cap;
 ghost use Rattle.model.specs.Tables as tables;
+ghost use Rattle.model.specs.Tree as tree;
+ghost use Rattle.model.specs.Operations as ops;
 ghost use Rattle.model.specs.Request as spec;
 ghost use Rattle.model.specs.declared.Operation.the-variants as operations;
 ghost use Rattle.core.specs.Serving as serving;
+
+// Copy and Mint: the source's root, then what is done.
+pub fn copying(
+    table: &mut [u32],
+    control: &mut [u32; 4],
+    caller: u32,
+    message: &[u32],
+    service: Row,
+    how: Change,
+) -> Answer
+    requires { ⌜ serving.Served (record { table = now table; control = now control }) (service .0) ⌝ }
+    ensures { λ r. ⌜ record { answer = r; tables = record { table = now (table .exit); control = now (control .exit) } } ≡ spec.carriedOut edition32 (record { table = now (table .entry); control = now (control .entry) }) (λ f. serving.twoPlaces (λ g d s. ops.copy edition32 g d s how) f caller (now (message .entry)) (service .0)) ⌝ }
+{
+    let found = asking::row_named(table, caller, message, 4);
+    match found {
+        Found::Refused(answer) => answer,
+        Found::At(root) => {
+            let dest = asking::place(table, service, message, 2, false);
+            let source = asking::place(table, root, message, 5, true);
+            transfer::copy(table, control, dest, source, how)
+        }
+    }
+}
+
+// Move and Mutate.
+pub fn moving(
+    table: &mut [u32],
+    control: &mut [u32; 4],
+    caller: u32,
+    message: &[u32],
+    service: Row,
+    how: Change,
+) -> Answer
+    requires { ⌜ serving.Served (record { table = now table; control = now control }) (service .0) ⌝ }
+    ensures { λ r. ⌜ record { answer = r; tables = record { table = now (table .exit); control = now (control .exit) } } ≡ spec.carriedOut edition32 (record { table = now (table .entry); control = now (control .entry) }) (λ f. serving.twoPlaces (λ g d s. ops.move edition32 g d s how) f caller (now (message .entry)) (service .0)) ⌝ }
+{
+    let found = asking::row_named(table, caller, message, 4);
+    match found {
+        Found::Refused(answer) => answer,
+        Found::At(root) => {
+            let dest = asking::place(table, service, message, 2, false);
+            let source = asking::place(table, root, message, 5, true);
+            transfer::relocate(table, control, dest, source, how)
+        }
+    }
+}
+
+// Delete: the row that the message names.
+pub fn deleting(table: &mut [u32], control: &mut [u32; 4], message: &[u32], service: Row) -> Answer
+    requires { ⌜ serving.Served (record { table = now table; control = now control }) (service .0) ⌝ }
+    ensures { λ r. ⌜ record { answer = r; tables = record { table = now (table .exit); control = now (control .exit) } } ≡ spec.carriedOut edition32 (record { table = now (table .entry); control = now (control .entry) }) (λ f. ops.delete edition32 f (spec.place (tree.capAt f (service .0)) (now (message .entry)) 2 false)) ⌝ }
+{
+    let target = asking::place(table, service, message, 2, false);
+    let found = find(table, target);
+    match found {
+        Found::Refused(answer) => answer,
+        Found::At(row) => Answer::Success {
+            count: removal::delete(table, control, row),
+        },
+    }
+}
+
+// Revoke.
+pub fn revoking(table: &mut [u32], control: &mut [u32; 4], message: &[u32], service: Row) -> Answer
+    requires { ⌜ serving.Served (record { table = now table; control = now control }) (service .0) ⌝ }
+    ensures { λ r. ⌜ record { answer = r; tables = record { table = now (table .exit); control = now (control .exit) } } ≡ spec.carriedOut edition32 (record { table = now (table .entry); control = now (control .entry) }) (λ f. ops.revoke edition32 f (spec.place (tree.capAt f (service .0)) (now (message .entry)) 2 false)) ⌝ }
+{
+    let target = asking::place(table, service, message, 2, false);
+    let found = find(table, target);
+    match found {
+        Found::Refused(answer) => answer,
+        Found::At(row) => Answer::Success {
+            count: removal::revoke(table, control, row),
+        },
+    }
+}
 
 // Retype.
 pub fn retyping(

@@ -24,3 +24,4 @@ pub mod Serving
 pub mod Memory
 pub mod Reuse
 pub mod Booting
+pub mod Formed

@@ -9,3 +9,4 @@ pub mod Tallying
 pub mod Nodes
 pub mod Start
 pub mod Removed
+pub mod Descent

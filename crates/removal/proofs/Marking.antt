@@ -1,8 +1,8 @@
 -- One row is marked: the counts fall by one at the CNode that it names, and a CNode that loses its last name waits. Whatever waited or was
 -- emptied before still is, since marks only grow and the CNode at hand had a name left.
 use Prim.Native.Nat.{ℕ, suc, _+_, _-_, _≤_, _<_}
-use mathlib.Core.Path.{_≡_, refl, sym, ap, _∙_, subst}
-use mathlib.Core.Bool.{Bool, true, false, not, _&&_, _||_, true≢false}
+use mathlib.Core.Path.{_≡_, refl, sym, ap, _∙_}
+use mathlib.Core.Bool.{Bool, true, false, _&&_}
 use mathlib.Core.List.{List}
 use native.Mathlib.Omega.{arith}
 use lib.Dec.{eqb}
@@ -11,11 +11,11 @@ use lib.Seq.{getD-set-same, getD-set-other}
 use borrow.Author.Tests.{eqb-true, eqb-false, eq-eqb, ne-eqb}
 use Rattle.model.specs.declared.Cap.{Cap}
 use Rattle.model.specs.Edition.{edition32}
-use Rattle.model.specs.Cap.{isEmpty, isCNode, firstRow, slots, sameObject, houses}
+use Rattle.model.specs.Cap.{isCNode, firstRow}
 use Rattle.model.specs.Lists.{count}
 use Rattle.model.proofs.Booleans.{either}
 use Rattle.model.proofs.Distinct.{count-same, count-less, count-most}
-use Rattle.removal.specs.Marking.{marked, names, stillNames, Nodes, Counted, Lost, Served, waits, emptied, Waiting, Marks, only}
+use Rattle.removal.specs.Marking.{marked, names, stillNames, Counted, Lost, Served, waits, emptied, Waiting}
 
 -- ---- marks
 

@@ -1,19 +1,18 @@
 -- What well-formed tables say of their CNodes, and that a set of rows is closed by the table's capabilities just if it is by the tree's entries.
-use Prim.Native.Nat.{ℕ, _+_, _-_, _*_, _/_, _^_, _≤_, _<_}
-use mathlib.Core.Path.{_≡_, refl, sym, ap, _∙_, subst}
-use mathlib.Core.Bool.{Bool, true, false, true≢false}
+use Prim.Native.Nat.{ℕ, _+_, _-_, _/_, _≤_, _<_}
+use mathlib.Core.Path.{_≡_, sym, _∙_, subst}
+use mathlib.Core.Bool.{Bool, true, false}
 use native.Mathlib.Omega.{arith}
-use lib.Dec.{eqb, leb}
-use lib.ListN.{length, getD}
+use lib.Dec.{leb}
+use lib.ListN.{getD}
 use borrow.Author.Tests.{eqb-true, leb-true, leb-false}
 use Rattle.model.specs.declared.Cap.{Cap}
 use Rattle.model.specs.Edition.{edition32}
-use Rattle.model.specs.Cap.{isEmpty, isUntyped, isCNode, firstRow, slots, bytes, limit, sameObject, houses}
-use Rattle.model.specs.Tree.{Entry, Forest, entries, capAt}
+use Rattle.model.specs.Cap.{isEmpty, isUntyped, isCNode, firstRow, slots, limit, sameObject, houses}
+use Rattle.model.specs.Tree.{Forest, entries, capAt}
 use Rattle.model.specs.Tables.{Tables, rows, capOf, read}
 use Rattle.model.specs.Rules.{wellFormed}
 use Rattle.model.proofs.Booleans.{either, and-left}
-use Rattle.model.proofs.Members.{Has}
 use Rattle.model.proofs.State.{Sound}
 use Rattle.model.proofs.Words.WellFormed.{roomy32, good-read}
 use Rattle.model.proofs.Words.Caps.{caps-read}

@@ -1,29 +1,30 @@
 -- Marks that spread from the start rows are what is removed from them, and the tables without the marked rows are those that a removal leaves.
-use Prim.Native.Nat.{ℕ, _+_, _<_}
+use Prim.Native.Nat.{ℕ}
 use mathlib.Core.Path.{_≡_, refl, sym, ap, _∙_, subst}
-use mathlib.Core.Bool.{Bool, true, false, not, _&&_, _||_, cond}
-use mathlib.Core.List.{List, [], _∷_, List·Memᴰ·head, List·Memᴰ·not-nil, List·Memᴰ·eq-of-singleton}
+use mathlib.Core.Bool.{Bool, true, false, _||_, cond}
+use mathlib.Core.List.{List, [], _∷_, List·Memᴰ·not-nil, List·Memᴰ·eq-of-singleton}
 use native.Mathlib.Omega.{arith}
 use lib.Dec.{eqb}
-use lib.ListN.{length, getD}
+use lib.ListN.{length}
 use borrow.Author.Tests.{eqb-true}
 use Rattle.model.specs.Edition.{edition32}
 use Rattle.model.specs.Lists.{any, member}
 use Rattle.model.specs.Cap.{isEmpty}
-use Rattle.model.specs.Tree.{Entry, Forest, entries, edit, without, capAt}
-use Rattle.model.specs.Tables.{Tables, read, write, capOf}
+use Rattle.model.specs.Tree.{Forest, entries, below, capAt}
+use Rattle.model.specs.Tables.{Tables, read, capOf}
 use Rattle.model.specs.Rules.{wellFormed}
 use Rattle.model.specs.Removal.{removed}
-use Rattle.model.specs.Operations.{remove}
+use Rattle.model.specs.Operations.{remove, descendants}
 use Rattle.model.specs.Request.{applied}
 use Rattle.model.proofs.Booleans.{either}
-use Rattle.model.proofs.Members.{Has, has-member, member-has}
-use Rattle.model.proofs.Kept.Edits.{alive, entries-without}
-use Rattle.model.proofs.Kept.Removal.{Swept, removed-start, removed-swept}
-use Rattle.model.proofs.Kept.Rules.{entry-at}
+use Rattle.model.proofs.Members.{Has, has-map, has-member, member-has}
+use Rattle.model.proofs.Kept.Edits.{entries-without}
+use Rattle.model.proofs.Kept.Removal.{removed-start, removed-swept}
+use Rattle.model.proofs.Kept.Forests.{row-below, below-has}
+use Rattle.model.proofs.Kept.Rules.{fine, known, entry-at}
 use Rattle.model.proofs.Removal.Counted.{removed-is, removed-count}
 use Rattle.removal.specs.Marking.{marked, rowCount, Zeros, ClosedRows, only, Spread}
-use Rattle.removal.specs.Removing.{Thins, target, Removes}
+use Rattle.removal.specs.Removing.{Thins, target, offspring, isOffspring, Removes}
 use Rattle.removal.proofs.Nodes.{sound, row-count, caps, closed-swept, swept-closed}
 use Rattle.removal.proofs.Start.{none-marked}
 use Rattle.removal.proofs.Tables.{rowsOfTables}
@@ -85,3 +86,17 @@ module _ (t : Tables) (well : wellFormed edition32 t ≡ true) (k : ℕ) where
 
   pub target-marked : (mark mark′ : List ℕ) → Zeros 4096 mark → ((j : ℕ) → marked mark′ j ≡ (marked mark j || only (capOf (t .table)) k j)) → (j : ℕ) → marked mark′ j ≡ member j (target t k)
   target-marked mark mark′ z is j = is j ∙ rw (none-marked mark z j) (only-target j)
+
+-- ---- the start of Revoke
+
+module _ (t : Tables) (well : wellFormed edition32 t ≡ true) (k : ℕ) where
+  pub offspring-there : (j : ℕ) → Has j (offspring t k) → isEmpty (capAt (read edition32 t .forest) j) ≡ false
+  unfolding descendants
+  offspring-there j m =
+      let (y, my, r) = has-map (λ e. e .row) (entries (below (read edition32 t .forest) k)) m in
+      let (x, rx, u) = row-below (read edition32 t .forest) k my in
+      let mf = below-has (u .at) (u .has) in
+      subst (λ i. isEmpty (capAt (read edition32 t .forest) i) ≡ false) r (ap isEmpty (known (sound t well) mf) ∙ fine (sound t well) mf .filled)
+
+  pub offspring-marked : (mark mark′ : List ℕ) → Zeros 4096 mark → ((j : ℕ) → marked mark′ j ≡ (marked mark j || isOffspring t k j)) → (j : ℕ) → marked mark′ j ≡ member j (offspring t k)
+  offspring-marked mark mark′ z is j = is j ∙ rw (none-marked mark z j)

@@ -16,7 +16,7 @@ use Rattle.model.proofs.Distinct.{Order, less, same, more, order}
 use Rattle.removal.specs.Marking.{marked, Counted, Marks, only, between, inNode}
 use Rattle.removal.proofs.Marks.{or-false}
 
-or-or : (b c d : Bool) → ((b || c) || d) ≡ (b || (c || d))
+pub or-or : (b c d : Bool) → ((b || c) || d) ≡ (b || (c || d))
 or-or true c d = refl
 or-or false c d = refl
 

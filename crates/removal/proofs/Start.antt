@@ -1,18 +1,15 @@
 -- Before any row is marked: the counts are those of all rows, and no CNode waits, since each is named by its own row.
-use Prim.Native.Nat.{ℕ, _≤_, _<_}
-use mathlib.Core.Path.{_≡_, refl, sym, ap, _∙_}
-use mathlib.Core.Bool.{Bool, true, false, not, _&&_, true≢false}
+use Prim.Native.Nat.{ℕ}
+use mathlib.Core.Path.{_≡_, refl, sym, _∙_}
+use mathlib.Core.Bool.{Bool, true, false, _&&_, true≢false}
 use mathlib.Core.List.{List}
 use native.Mathlib.Omega.{arith}
-use lib.Dec.{eqb}
-use lib.ListN.{getD, length}
 use borrow.Author.Tests.{eq-eqb}
 use Rattle.model.specs.declared.Cap.{Cap}
 use Rattle.model.specs.Edition.{edition32}
-use Rattle.model.specs.Cap.{isCNode, firstRow, slots}
-use Rattle.model.specs.Lists.{count}
+use Rattle.model.specs.Cap.{isCNode, firstRow}
 use Rattle.model.proofs.Distinct.{count-same, count-zero}
-use Rattle.removal.specs.Marking.{marked, names, stillNames, Zeros, Tally, Nodes, Counted, Lost, Served, Waiting}
+use Rattle.removal.specs.Marking.{marked, names, stillNames, Zeros, Tally, Nodes, Counted, Lost, Waiting}
 use Rattle.removal.proofs.Marking.{unmarked}
 use Rattle.removal.proofs.Spreading.{some-slot}
 

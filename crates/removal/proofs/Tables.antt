@@ -1,6 +1,6 @@
 -- From well-formed tables to the start of a walk along their list, and from its end to the tables without the marked rows.
-use Prim.Native.Nat.{ℕ, zero, suc, _+_, _-_, _*_, _^_, _≤_, _<_}
-use mathlib.Core.Path.{_≡_, refl, sym, ap, ap₂, _∙_, subst}
+use Prim.Native.Nat.{ℕ, zero, suc, _-_, _*_, _≤_}
+use mathlib.Core.Path.{_≡_, refl, sym, ap, ap₂, _∙_}
 use mathlib.Core.Bool.{Bool, true, not}
 use mathlib.Core.List.{List, [], _∷_, map}
 use native.Mathlib.Omega.{arith}
@@ -10,10 +10,10 @@ use Rattle.model.specs.Edition.{edition32}
 use Rattle.model.specs.Lists.{member, count}
 use Rattle.model.specs.Cap.{isEmpty}
 use Rattle.model.specs.Tree.{Forest, entries, edit, without}
-use Rattle.model.specs.Tables.{Tables, Listed, State, rows, capOf, read, write, listing, rowsFrom, firstOf}
+use Rattle.model.specs.Tables.{Tables, Listed, rows, capOf, read, write, listing, rowsFrom, firstOf}
 use Rattle.model.specs.Rules.{wellFormed, mInRange}
 use Rattle.model.proofs.Booleans.{within-parts}
-use Rattle.model.proofs.Members.{length-map, all-map}
+use Rattle.model.proofs.Members.{all-map}
 use Rattle.model.proofs.Distinct.{count-most}
 use Rattle.model.proofs.Words.Rows.{rowsIn}
 use Rattle.model.proofs.Words.Listing.{listing-grown}
@@ -22,7 +22,7 @@ use Rattle.model.proofs.Words.WellFormed.{Formed, formed, formed-distinct, form
 use Rattle.removal.specs.Marking.{marked, Zeros}
 use Rattle.removal.specs.Removing.{Thins}
 use Rattle.removal.proofs.Thinning.{thinned, thinned-listing}
-use Rattle.removal.proofs.Walking.{Walk, Walked, walk-fit, walk-end}
+use Rattle.removal.proofs.Walking.{Walked, walk-fit, walk-end}
 
 -- the list without the marked rows, from the numbers of ancestors that are left at the start
 abbrev pub whole : (mark start : List ℕ) → Tables → List Listed
@@ -54,6 +54,10 @@ module _ (t : Tables) (well : wellFormed edition32 t ≡ true) where
 
   pub table-long : length (t .table) ≡ 8 * rowsOfTables t
   table-long = form .tableLong
+
+  pub list-read : listing 0 (read edition32 t .forest) ≡ listIn edition32 t
+  unfolding read
+  list-read = listing-grown (listIn edition32 t) (form .chained .steps)
 
   pub walk-start : (mark start : List ℕ) → Zeros 4097 start → Walked edition32 (rowsOfTables t) (getD (t .control) 3 0) (marked mark) (whole mark start t) (t .table) start (getD (t .control) 2 0) (getD (t .control) 3 0) 4294967295 4294967295 0
   unfolding firstOf
@@ -88,9 +92,6 @@ module _ (t : Tables) (well : wellFormed edition32 t ≡ true) where
 
     ends : (u ≡ rowsFrom edition32 (whole mark start t) 0 (rowsOfTables t)) × (head ≡ firstOf edition32 (whole mark start t)) × (kept ≡ length (whole mark start t))
     ends = walk-end edition32 (rowsOfTables t) (getD (t .control) 3 0) (marked mark) (whole mark start t) u low row left last head kept w done
-
-    list-read : listing 0 f ≡ listIn edition32 t
-    list-read = unfold read in listing-grown (listIn edition32 t) (form .chained .steps)
 
     whole-is : (dead : List ℕ) → ((k : ℕ) → marked mark k ≡ member k dead) → whole mark start t ≡ listing 0 (edit (without dead) f)
     whole-is dead same =

@@ -9,7 +9,6 @@ use Rattle.model.specs.declared.Cap.{Cap}
 use Rattle.model.specs.Edition.{edition32}
 use Rattle.model.specs.Cap.{isEmpty, isCNode, firstRow, slots, sameObject, houses}
 use Rattle.model.specs.Lists.{count}
-use Rattle.model.specs.Tables.{capOf}
 
 -- row k is marked
 unfoldable pub marked : List ℕ → ℕ → Bool

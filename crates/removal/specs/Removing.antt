@@ -1,7 +1,7 @@
 -- What a removal leaves of the tables.
 use Prim.Native.Nat.{ℕ, _+_}
 use mathlib.Core.Path.{_≡_}
-use mathlib.Core.Bool.{cond}
+use mathlib.Core.Bool.{Bool, cond}
 use mathlib.Core.List.{List, [], _∷_}
 use lib.ListN.{length}
 use Rattle.model.specs.Lists.{member}
@@ -31,6 +31,10 @@ target t k = cond (isEmpty (capAt (read edition32 t .forest) k)) [] (k ∷ [])
 -- Revoke from all descendants of a row
 abbrev pub offspring : Tables → (k : ℕ) → List ℕ
 offspring t k = descendants (read edition32 t .forest) k
+
+-- row j is one of them
+abbrev pub isOffspring : Tables → (k j : ℕ) → Bool
+isOffspring t k j = member j (offspring t k)
 
 -- the answer's count and the tables are those of the removal
 pub record Removes (t t′ : Tables) (start : List ℕ) (gone : ℕ) : Type 0 where

@@ -161,6 +161,41 @@ fn thin(t: &mut [u32], control: &mut [u32; 4], mark: &[u32; 4096]) -> u32
     total - kept
 }
 
+// The descendants of a row are marked: the rows after it that are deeper.
+fn mark_descendants(
+    t: &[u32],
+    control: &[u32; 4],
+    row: u32,
+    mark: &mut [u32; 4096],
+    counts: &mut [u32; 4096],
+    work: &mut [u32; 4096],
+) -> usize
+    requires { ⌜ wellFormed edition32 (record { table = now t; control = now control }) ≡ true ⌝ }
+    requires { ⌜ marking.Counted (marking.rowCount (now t)) (capOf (now t)) (now mark) (now counts) 0 ⌝ }
+    requires { ⌜ row < marking.rowCount (now t) ⌝ }
+    ensures { λ r. ⌜ marking.Marks (marking.rowCount (now (t .entry))) (capOf (now (t .entry))) (removing.isOffspring (record { table = now (t .entry); control = now (control .entry) }) row) (now (mark .entry)) (now (counts .entry)) (now (work .entry)) 0 (now (mark .exit)) (now (counts .exit)) (now (work .exit)) r ⌝ }
+{
+    let mut ready: usize = 0;
+    if table::word(t, Row(row), 0) == 0 {
+        return ready;
+    }
+    let depth = table::word(t, Row(row), 7);
+    let mut next = table::word(t, Row(row), 5);
+    let mut left = control[3];
+    while left > 0 {
+        if next == NONE {
+            return ready;
+        }
+        if table::word(t, Row(next), 7) <= depth {
+            return ready;
+        }
+        ready = mark_row(t, next, mark, counts, work, ready);
+        next = table::word(t, Row(next), 5);
+        left -= 1;
+    }
+    ready
+}
+
 // A row goes, with all that follows; how many went.
 pub fn delete(t: &mut [u32], control: &mut [u32; 4], row: Row) -> u32
     requires { ⌜ wellFormed edition32 (record { table = now t; control = now control }) ≡ true ⌝ }
@@ -172,6 +207,21 @@ pub fn delete(t: &mut [u32], control: &mut [u32; 4], row: Row) -> u32
     let mut work = [0u32; 4096];
     count_names(t, &mut counts);
     let filled = mark_row(t, row.0, &mut mark, &mut counts, &mut work, 0);
+    spread(t, &mut mark, &mut counts, &mut work, filled);
+    thin(t, control, &mark)
+}
+
+// All descendants of a row go, with all that follows; how many went.
+pub fn revoke(t: &mut [u32], control: &mut [u32; 4], row: Row) -> u32
+    requires { ⌜ wellFormed edition32 (record { table = now t; control = now control }) ≡ true ⌝ }
+    requires { ⌜ row .0 * 8 + 8 ≤ length (now t) ⌝ }
+    ensures { λ r. ⌜ removing.Removes (record { table = now (t .entry); control = now (control .entry) }) (record { table = now (t .exit); control = now (control .exit) }) (removing.offspring (record { table = now (t .entry); control = now (control .entry) }) (row .0)) r ⌝ }
+{
+    let mut mark = [0u32; 4096];
+    let mut counts = [0u32; 4096];
+    let mut work = [0u32; 4096];
+    count_names(t, &mut counts);
+    let filled = mark_descendants(t, control, row.0, &mut mark, &mut counts, &mut work);
     spread(t, &mut mark, &mut counts, &mut work, filled);
     thin(t, control, &mark)
 }

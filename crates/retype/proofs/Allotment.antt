@@ -78,7 +78,7 @@ module _ (t : Tables) (k : ℕ) (q : Retyping) (first : ℕ) (v : Vacant t k q f
     allot-done at e t′ stores =
         let low : first + q .window ≤ rows edition32 (getD (t .control) 0 0) = omega (arith, v .rows, sizes .long) in
         let words : write edition32 (applied (read edition32 t) (allotted edition32 k (capOf (t .table) k) at q first) .state) ≡ laidOut t k first at q =
-            write-allotted edition32 roomy32 t (v .formed) k (capOf (t .table) k) at q first filled vacant low in
+        write-allotted edition32 roomy32 t (v .formed) k (capOf (t .table) k) at q first filled vacant low in
         comes-done edition32 t (allotting k first q) (allotted edition32 k (capOf (t .table) k) at q first) t′ (allotting-is ∙ rw (sym e, is)) (stores ∙ sym words)
 
     pub bounded : Bounded u from q

@@ -77,7 +77,7 @@ node-usable t p n ready usable e = go (eqb (p .depth) 0) e
     named (passed k) h = let same : n ≡ capOf t k = cc in rw same (ready .nodes k)
     named (refused a) h = absurd (never a n (sym h))
 
-    go : (b : Bool) → passed n ≡ elim b [ | true ↦ passed (p .root) | false ↦ slotOf edition32 (p .source) (lookup edition32 (capOf t) (p .root) (p .index) (p .depth)) >>= λ k. passed (capOf t k) ] → isCNode n ≡ true → Usable t n
+    go : (b : Bool) → passed n ≡ elim b [ true ↦ passed (p .root) | false ↦ slotOf edition32 (p .source) (lookup edition32 (capOf t) (p .root) (p .index) (p .depth)) >>= λ k. passed (capOf t k) ] → isCNode n ≡ true → Usable t n
     go true h = let same : n ≡ p .root = cc in rw same usable
     go false h = named (slotOf edition32 (p .source) (lookup edition32 (capOf t) (p .root) (p .index) (p .depth))) h
 

@@ -16,7 +16,7 @@ linked-length t k next row c depth = simp length-set
 
 step : (q : Retyping) (depth next : ℕ) (t : List ℕ) (last k at left : ℕ) (c : Cap) → 0 < left → c ≡ newCap edition32 (q .object) (q .size) at
     → linkedRun (linked t last next (record { entry = record { row = k; cap = c }; depth = depth })) k next (newRows q depth (k + 1) (at + unit q) (left - 1))
-      ≡ linkedRun t last next (newRows q depth k at left)
+    ≡ linkedRun t last next (newRows q depth k at left)
 unfolding made
 step q depth next t last k at zero c h e = absurd (omega arith)
 step q depth next t last k at (suc n) c h e = let one : suc n - 1 ≡ n = omega arith in rw (e, one)

@@ -2,12 +2,12 @@
 use Prim.Native.Nat.{ℕ}
 use Rattle.model.specs.declared.Cap.{Cap}
 use Rattle.model.specs.Check.{Check, passed, refused}
-use Rattle.retype.specs.declared.Judged.{Judged}
-use Rattle.retype.specs.declared.Judged.the-variants as judged
-use Rattle.retype.specs.declared.Memory.{Memory}
-use Rattle.retype.specs.declared.Memory.the-variants as memory
-use Rattle.retype.specs.declared.Taker.{Taker}
-use Rattle.retype.specs.declared.Taker.the-variants as taker
+use Rattle.retype.specs.declared.object.Judged.{Judged}
+use Rattle.retype.specs.declared.object.Judged.the-variants as judged
+use Rattle.retype.specs.declared.memory.Memory.{Memory}
+use Rattle.retype.specs.declared.memory.Memory.the-variants as memory
+use Rattle.retype.specs.declared.place.Taker.{Taker}
+use Rattle.retype.specs.declared.place.Taker.the-variants as taker
 
 abbrev pub ofJudged : Judged → Check (Unit {0})
 ofJudged judged.Passed = passed tt

@@ -10,7 +10,7 @@ use Rattle.model.specs.declared.Answer.the-variants.{Success, RevokeFirst}
 use Rattle.model.specs.declared.Cap.{Cap}
 use Rattle.model.specs.Edition.{edition32}
 use Rattle.model.specs.Cap.{isEmpty, isUntyped}
-use Rattle.model.specs.Check.{passed, refused, _>>_, refuse}
+use Rattle.model.specs.Check.{passed, _>>_, refuse}
 use Rattle.model.specs.Tree.{hasChildren}
 use Rattle.model.specs.Stores.{linked, recapped}
 use Rattle.model.specs.Tables.{Tables, word, capOf, read}

@@ -1,17 +1,18 @@
 -- What the code's sums and shifts need of well-formed tables.
-use Prim.Native.Nat.{ℕ, _+_, _-_, _*_, _^_, _≤_, _<_}
+use Prim.Native.Nat.{ℕ, _-_, _≤_, _<_}
 use mathlib.Core.Path.{_≡_}
 use mathlib.Core.Bool.{true, false}
 use native.Mathlib.Omega.{arith}
-use lib.ListN.{length, getD}
+use lib.ListN.{getD}
 use lib.Pow.{pow-mono}
 use Rattle.model.specs.Edition.{edition32}
 use Rattle.model.specs.Cap.{isEmpty, isUntyped}
 use Rattle.model.specs.Tables.{Tables, rows, word, capOf}
-use Rattle.model.specs.Rules.{wellFormed, mInRange, capAllowed, sizeAllowed}
-use Rattle.model.proofs.Booleans.{part, within-parts}
+use Rattle.model.specs.Rules.{wellFormed, mInRange}
+use Rattle.model.proofs.Booleans.{within-parts}
 use Rattle.model.proofs.Words.Chain.{row-taken}
 use Rattle.model.proofs.Words.WellFormed.{roomy32, formed}
+use Rattle.model.proofs.Kept.Allowed.{untyped-size}
 use Rattle.model.proofs.Transfer.Held.{counted-most, depth-below}
 use Rattle.transfer.specs.Lent.{InTable}
 
@@ -38,7 +39,4 @@ module _ (t : Tables) (e : wellFormed edition32 t ≡ true) where
     depth-small = omega (arith, few-rows, counted-most edition32 roomy32 t e, depth-below edition32 roomy32 t e k some)
 
     pub size-small : InTable (t .table) k → isUntyped (capOf (t .table) k) ≡ true → capOf (t .table) k .size ≤ 31
-    unfolding capAllowed sizeAllowed
-    size-small h untyped =
-        let allowed : sizeAllowed edition32 m (capOf (t .table) k) ≡ true = part _ 1 (row-taken edition32 m (t .table) k (formed edition32 roomy32 t e .eachRow k (row-below k h)) some) in
-        omega (arith, range .1, within-parts 4 (capOf (t .table) k .size) (m - 1) (rw (sizeAllowed, untyped) at allowed) .1)
+    size-small h untyped = omega (arith, range .1, untyped-size edition32 m (capOf (t .table) k) (row-taken edition32 m (t .table) k (formed edition32 roomy32 t e .eachRow k (row-below k h)) some) untyped .1)

@@ -7,3 +7,4 @@ pub mod Along
 pub mod Planned
 pub mod Located
 pub mod Turning
+pub mod Rotates

@@ -1,6 +1,6 @@
 -- Copy and Move are the tests that they share and what is done along the way that these give.
 use Prim.Native.Nat.{ℕ}
-use mathlib.Core.Path.{_≡_, refl, sym, ap, _∙_}
+use mathlib.Core.Path.{_≡_, sym, ap, _∙_}
 use mathlib.Core.Bool.{true}
 use Rattle.model.specs.declared.Answer.{Answer}
 use Rattle.model.specs.declared.Answer.the-variants.{Success}
@@ -8,7 +8,7 @@ use Rattle.model.specs.declared.Cap.{Cap}
 use Rattle.model.specs.declared.Change.{Change}
 use Rattle.model.specs.declared.Place.{Place}
 use Rattle.model.specs.Edition.{Edition, edition32}
-use Rattle.model.specs.Check.{Check, passed, refused, _>>=_, _>>_, refuse}
+use Rattle.model.specs.Check.{Check, passed, refused, _>>=_, _>>_}
 use Rattle.model.specs.Tree.{Forest, capAt}
 use Rattle.model.specs.Tables.{Tables, capOf, read}
 use Rattle.model.specs.Rules.{wellFormed}

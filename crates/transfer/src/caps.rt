@@ -1,6 +1,8 @@
 // What a capability becomes on its way: rights, badges, guards and watermarks.
 use model::Cap;
 use model::Change;
+use table::size::bytes_of;
+use table::size::pow2;
 ghost use mathlib.Core.Path.{_≡_};
 ghost use mathlib.Core.Bool.{true};
 ghost use Prim.Native.Nat.{_≤_};
@@ -76,8 +78,9 @@ pub fn guard_size_in(datum: u32) -> u32
 pub fn guard_in(datum: u32) -> u32
     ensures { λ r. ⌜ r ≡ ops.guardIn edition32 datum ⌝ }
 {
-    let size = datum % 32;
-    datum / 32 % 262144 % (1 << size)
+    let guard = datum / 32 % 262144;
+    let cut = guard as u64 % pow2(guard_size_in(datum));
+    cut as u32
 }
 
 // Whether a capability may not be given a datum; only Mint gives a badge, and only to an unbadged capability.
@@ -140,7 +143,7 @@ pub fn full(c: Cap) -> Cap
     ensures { λ r. ⌜ r ≡ ops.full edition32 c ⌝ }
 {
     if c.kind == 1 {
-        return with_third(c, 1 << c.size);
+        return with_third(c, bytes_of(c) as u32);
     }
     c
 }

@@ -16,7 +16,13 @@ use table::stores::put_cap;
 use table::word;
 use ways::Plan;
 use ways::Way;
+use shifts::exchange;
 use shifts::shift;
+use turns::three_rows;
+use turns::turn_at;
+use turns::Located;
+use turns::Turn;
+use turns::Turning;
 use ways::planned;
 ghost use mathlib.Core.Path.{_≡_};
 ghost use mathlib.Core.Bool.{true};
@@ -26,6 +32,7 @@ ghost use Rattle.model.specs.Rules.{wellFormed};
 ghost use Rattle.model.specs.Operations as ops;
 ghost use Rattle.model.specs.Request.{carriedOut};
 ghost use Rattle.transfer.specs.Lent.{lent, Reached, after};
+ghost use Rattle.transfer.specs.Turns as turns;
 ghost use Rattle.transfer.specs.Ways as spec;
 
 // Copy and Mint: the copy is listed straight after its source, one deeper; a copied Untyped is full.
@@ -35,7 +42,8 @@ fn copied(t: &mut [u32], control: &mut [u32; 4], w: Way)
 {
     let next = word(t, w.from, 5);
     let depth = word(t, w.from, 7);
-    let source = full(cap_at(t, w.from));
+    let old = cap_at(t, w.from);
+    let source = full(old);
     put_cap(t, w.from, source);
     link(t, w.from, next, w.to, fresh(w.cap), depth + 1);
     control[3] = control[3] + 1;
@@ -89,6 +97,41 @@ pub fn relocate(
         Plan::Go(w) => {
             shift(t, control, w.from, w.to, w.cap);
             Answer::Success { count: 0 }
+        }
+    }
+}
+
+// The pivot goes to the destination and the source to the pivot; where the destination is the source, they change places.
+fn turned(t: &mut [u32], control: &mut [u32; 4], w: Turn)
+    requires { ⌜ turns.Turns (lent (now t) (now control)) w ⌝ }
+    ensures { λ _. ⌜ lent (now (t .exit)) (now (control .exit)) ≡ after edition32 (lent (now (t .entry)) (now (control .entry))) (turns.turned w) ⌝ }
+{
+    let rows = w.rows;
+    if rows.to.0 == rows.from.0 {
+        exchange(t, control, rows.from, rows.mid, w.pivot, w.source);
+    } else {
+        shift(t, control, rows.mid, rows.to, w.pivot);
+        shift(t, control, rows.from, rows.mid, w.source);
+    }
+}
+
+// Rotate.
+pub fn rotate(t: &mut [u32], control: &mut [u32; 4], dest: Place, pivot: Place, source: Place, datum: u32, pivot_datum: u32) -> Answer
+    requires { ⌜ wellFormed edition32 (lent (now t) (now control)) ≡ true ⌝ ∗ ⌜ Reached (now t) dest ⌝ ∗ ⌜ Reached (now t) pivot ⌝ ∗ ⌜ Reached (now t) source ⌝ }
+    ensures { λ r. ⌜ record { answer = r; tables = lent (now (t .exit)) (now (control .exit)) } ≡ carriedOut edition32 (lent (now (t .entry)) (now (control .entry))) (λ f. ops.rotate edition32 f dest pivot source datum «pivot_datum») ⌝ }
+{
+    let located = three_rows(t, dest, pivot, source);
+    match located {
+        Located::Nowhere(answer) => answer,
+        Located::At(rows) => {
+            let turning = turn_at(t, rows, pivot, source, datum, pivot_datum);
+            match turning {
+                Turning::Refused(answer) => answer,
+                Turning::Go(w) => {
+                    turned(t, control, w);
+                    Answer::Success { count: 0 }
+                }
+            }
         }
     }
 }

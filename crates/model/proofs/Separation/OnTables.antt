@@ -1,5 +1,5 @@
 -- Requests on tables follow requests on the forest that the tables stand for, so tenants disturb each other on tables no more than on
--- forests. What this asks of reading and writing tables are the four laws of `Faithful`.
+-- forests.
 use Prim.Native.Nat.{ℕ}
 use mathlib.Core.Path.{ap, ap₂, refl, sym, _∙_, _≡_}
 use mathlib.Core.Bool.{cond, true}
@@ -7,7 +7,7 @@ use mathlib.Core.List.{List, [], _++_, _∷_}
 use lib.Dec.{eqb}
 use Rattle.model.specs.declared.Answer.{Answer}
 use Rattle.model.specs.Lists.{shareNone}
-use Rattle.model.specs.Edition.{Edition}
+use Rattle.model.specs.Edition.{Edition, edition32}
 use Rattle.model.specs.Cap.{isCNode}
 use Rattle.model.specs.Tree.{Forest, capAt}
 use Rattle.model.specs.Check.{Check, passed, refused, _>>=_}
@@ -18,19 +18,14 @@ use Rattle.model.specs.Request.{Outcome, applied, carriedOut, concluded,
 use Rattle.model.specs.Estate.{estate}
 use Rattle.model.proofs.Members.{All, Has}
 use Rattle.model.proofs.State.{Good}
-use Rattle.model.proofs.Kept.Figures.{Sane}
+use Rattle.model.proofs.Kept.Figures.{Sane, sane32}
 use Rattle.model.proofs.Kept.Serving.{served-good}
 use Rattle.model.proofs.Separation.Merge.{Sent, answersTo, by, forestAfter, inTurn, stepped}
 use Rattle.model.proofs.Separation.Steps.{didOf, edited}
 use Rattle.model.proofs.Separation.Tenants.{asked, tenants-answers, tenants-forest}
 use Rattle.model.proofs.Separation.Two.{tenants-apart}
-
--- the laws between tables and the states that they stand for
-pub record Faithful (E : Edition) : Type 0 where
-  pub back : (t : Tables) → wellFormed E t ≡ true → write E (read E t) ≡ t
-  pub good : (t : Tables) → wellFormed E t ≡ true → Good E (read E t)
-  pub formed : (s : State) → Good E s → wellFormed E (write E s) ≡ true
-  pub reads : (s : State) → Good E s → read E (write E s) ≡ s
+use Rattle.model.proofs.Words.ReadWrite.{read-write}
+use Rattle.model.proofs.Words.WellFormed.{Roomy, formed-write, good-fits, good-read, roomy32, write-read}
 
 -- the tables after requests
 unfoldable pub tablesAfter : Edition → Tables → List (Sent (List ℕ)) → Tables
@@ -48,7 +43,7 @@ toldOn E a t (z ∷ zs) =
 abbrev withForest : State → Forest → State
 withForest s f = record { m = s .m; r = s .r; forest = f }
 
-module _ {E : Edition} (faithful : Faithful E) (sane : Sane E) where
+module _ {E : Edition} (law : Roomy E) (sane : Sane E) where
   -- one request on the tables of a state
   record Step (s : State) (caller : ℕ) (message : List ℕ) : Type 0 where
     answer : request E (write E s) caller message .answer ≡ asked E caller (s .forest) message .told
@@ -58,7 +53,7 @@ module _ {E : Edition} (faithful : Faithful E) (sane : Sane E) where
   opened : (s : State) → Good E s → (caller : ℕ) (message : List ℕ) → request E (write E s) caller message ≡ concluded E (write E s) (served E (s .forest) caller message >>= λ d. passed (applied s d))
   unfolding request carriedOut
   opened s g caller message =
-      rw (faithful .formed s g) (ap (λ (x : State). concluded E (write E s) (served E (x .forest) caller message >>= λ d. passed (applied x d))) (faithful .reads s g))
+      rw (formed-write E law s g) (ap (λ (x : State). concluded E (write E s) (served E (x .forest) caller message >>= λ d. passed (applied x d))) (read-write E s (good-fits E law s g)))
 
   step : (s : State) → Good E s → (caller : ℕ) (message : List ℕ) → Step s caller message
   step s g caller message = go (served E (s .forest) caller message) refl
@@ -85,25 +80,16 @@ module _ {E : Edition} (faithful : Faithful E) (sane : Sane E) where
       let p = step s g (z .caller) (z .message) in
       ap₂ (λ (x : Answer) xs. cond (eqb (z .caller) a) (x ∷ xs) xs) (p .answer) (ap (λ t. toldOn E a t zs) (p .tables) ∙ told-follow a zs (withForest s (stepped (asked E) (s .forest) z)) (p .good))
 
-  good-follow : (zs : List (Sent (List ℕ))) (s : State) → Good E s → Good E (withForest s (forestAfter (asked E) (s .forest) zs))
-  unfolding forestAfter
-  good-follow [] s g = g
-  good-follow (z ∷ zs) s g = good-follow zs (withForest s (stepped (asked E) (s .forest) z)) (step s g (z .caller) (z .message) .good)
-
   -- well-formed tables are those of the state that they stand for
   module _ (t : Tables) (wf : wellFormed E t ≡ true) where
     abbrev s : State
     s = read E t
 
     tables-are : (zs : List (Sent (List ℕ))) → tablesAfter E t zs ≡ write E (withForest s (forestAfter (asked E) (s .forest) zs))
-    tables-are zs = ap (λ u. tablesAfter E u zs) (sym (faithful .back t wf)) ∙ tables-follow zs s (faithful .good t wf)
+    tables-are zs = ap (λ u. tablesAfter E u zs) (sym (write-read E law t wf)) ∙ tables-follow zs s (good-read E law t wf)
 
     told-are : (a : ℕ) (zs : List (Sent (List ℕ))) → toldOn E a t zs ≡ answersTo (asked E) a (s .forest) zs
-    told-are a zs = ap (λ u. toldOn E a u zs) (sym (faithful .back t wf)) ∙ told-follow a zs s (faithful .good t wf)
-
-    -- requests leave well-formed tables
-    pub requests-formed : (zs : List (Sent (List ℕ))) → wellFormed E (tablesAfter E t zs) ≡ true
-    requests-formed zs = rw (tables-are zs) (faithful .formed (withForest s (forestAfter (asked E) (s .forest) zs)) (good-follow zs s (faithful .good t wf)))
+    told-are a zs = ap (λ u. toldOn E a u zs) (sym (write-read E law t wf)) ∙ told-follow a zs s (good-read E law t wf)
 
     module _ (roots : List ℕ)
         (cnodes : (a : ℕ) → Has a roots → isCNode (capAt (s .forest) a) ≡ true)
@@ -111,12 +97,12 @@ module _ {E : Edition} (faithful : Faithful E) (sane : Sane E) where
         (zs : List (Sent (List ℕ))) (ours : All (λ z. Has (z .caller) roots) zs) where
       -- a tenant is told what it is told alone
       pub told-alone : (a : ℕ) → Has a roots → toldOn E a t zs ≡ toldOn E a t (by a zs)
-      told-alone a w = told-are a zs ∙ tenants-answers (faithful .good t wf .sound) sane roots cnodes apart zs ours a w ∙ sym (told-are a (by a zs))
+      told-alone a w = told-are a zs ∙ tenants-answers (good-read E law t wf .sound) sane roots cnodes apart zs ours a w ∙ sym (told-are a (by a zs))
 
       -- any merge ends in the tables of any one-after-another order
       pub tables-in-turn : (order : List ℕ) → tablesAfter E t zs ≡ tablesAfter E t (inTurn order zs)
       tables-in-turn order =
-          tables-are zs ∙ ap (λ f. write E (withForest s f)) (tenants-forest (faithful .good t wf .sound) sane roots cnodes apart zs ours order) ∙ sym (tables-are (inTurn order zs))
+          tables-are zs ∙ ap (λ f. write E (withForest s f)) (tenants-forest (good-read E law t wf .sound) sane roots cnodes apart zs ours order) ∙ sym (tables-are (inTurn order zs))
 
 -- two tenants on tables
 pub record UndisturbedOn (E : Edition) (t : Tables) (a b : ℕ) (zs : List (Sent (List ℕ))) : Type 0 where
@@ -126,13 +112,18 @@ pub record UndisturbedOn (E : Edition) (t : Tables) (a b : ℕ) (zs : List (Sent
 
 -- Take well-formed tables and two tenants whose root rows hold CNodes and whose estates share no row. Any merge of their requests gives each
 -- what it is told alone, and leaves the tables that the first's requests and then the second's leave.
-pub separation : {E : Edition} → Faithful E → Sane E → (t : Tables) → wellFormed E t ≡ true → (a b : ℕ) → isCNode (capAt (read E t .forest) a) ≡ true → isCNode (capAt (read E t .forest) b) ≡ true
+pub separation : {E : Edition} → Roomy E → Sane E → (t : Tables) → wellFormed E t ≡ true → (a b : ℕ) → isCNode (capAt (read E t .forest) a) ≡ true → isCNode (capAt (read E t .forest) b) ≡ true
     → shareNone (estate E (read E t .forest) (rows E (read E t .m)) a) (estate E (read E t .forest) (rows E (read E t .m)) b) ≡ true
     → (zs : List (Sent (List ℕ))) → All (λ z. Has (z .caller) (a ∷ b ∷ [])) zs → UndisturbedOn E t a b zs
-separation {E} faithful sane t wf a b rootA rootB none zs ours =
-    let u = tenants-apart sane (faithful .good t wf .sound) a b rootA rootB none zs ours in
+separation {E} law sane t wf a b rootA rootB none zs ours =
+    let u = tenants-apart sane (good-read E law t wf .sound) a b rootA rootB none zs ours in
     record {
-      first = told-are faithful sane t wf a zs ∙ u .first ∙ sym (told-are faithful sane t wf a (by a zs));
-      second = told-are faithful sane t wf b zs ∙ u .second ∙ sym (told-are faithful sane t wf b (by b zs));
-      tables = tables-are faithful sane t wf zs ∙ ap (λ f. write E (withForest (read E t) f)) (u .forest) ∙ sym (tables-are faithful sane t wf (by a zs ++ by b zs));
+      first = told-are law sane t wf a zs ∙ u .first ∙ sym (told-are law sane t wf a (by a zs));
+      second = told-are law sane t wf b zs ∙ u .second ∙ sym (told-are law sane t wf b (by b zs));
+      tables = tables-are law sane t wf zs ∙ ap (λ f. write E (withForest (read E t) f)) (u .forest) ∙ sym (tables-are law sane t wf (by a zs ++ by b zs));
     }
+
+pub separation32 : (t : Tables) → wellFormed edition32 t ≡ true → (a b : ℕ) → isCNode (capAt (read edition32 t .forest) a) ≡ true → isCNode (capAt (read edition32 t .forest) b) ≡ true
+    → shareNone (estate edition32 (read edition32 t .forest) (rows edition32 (read edition32 t .m)) a) (estate edition32 (read edition32 t .forest) (rows edition32 (read edition32 t .m)) b) ≡ true
+    → (zs : List (Sent (List ℕ))) → All (λ z. Has (z .caller) (a ∷ b ∷ [])) zs → UndisturbedOn edition32 t a b zs
+separation32 = separation roomy32 sane32

@@ -1,5 +1,5 @@
 -- `removal::count_names` meets its contract. The loop's invariant: the rows below `row` are counted. Assumes nothing.
-use Prim.Native.Nat.{ℕ, _+_, _*_, _-_, _≤_, _<_}
+use Prim.Native.Nat.{ℕ, _-_, _≤_, _<_}
 use mathlib.Core.Path.{_≡_, sym, ap, _∙_}
 use mathlib.Core.Logic.{⊎-elim}
 use mathlib.Core.List.{List}
@@ -9,17 +9,13 @@ use borrow.Author.Needs.{needs}
 use borrow.Author.Tests.{eq-eqb, ne-eqb}
 use denote.Ref.{now}
 use Rattle.model.specs.Edition.{edition32}
-use Rattle.model.specs.Cap.{isCNode, firstRow, slots}
+use Rattle.model.specs.Cap.{isCNode, firstRow}
 use Rattle.model.specs.Tables.{capOf}
 use Rattle.removal.specs.Marking.{rowCount, Tally}
 use Rattle.removal.proofs.Spreading.{some-slot}
 use Rattle.removal.proofs.Tallying.{tally-none, tally-plain, tally-few, tally-node}
 use Rattle.removal.proofs.count_names.Statement.{statement}
 use Rattle.removal.proofs.count_names.Tie as tie
-use Rattle.removal.proofs.count_names.Reads as reads
-use Rattle.removal.proofs.count_names.Lts as lts
-use Rattle.table.proofs.cap_at.Reads as cap-at-reads
-use Rattle.table.proofs.row_of.Reads as row-of-reads
 
 abbrev Inv-loop : tie.InvT-loop
 Inv-loop t counts₀ rows row₀ counts row = (row ≤ rows) × Tally (capOf t) counts row
@@ -54,55 +50,42 @@ plain-of : (c : tie.After-cap-at Inv-loop μ-loop) → (c .cap-at .result .kind 
 unfolding isCNode
 plain-of c h = ap isCNode (sym (c .cap-at .ensures)) ∙ ne-eqb _ 5 h
 
--- src/lib.rt:64:16
 cast-rows : tie.Need-cast-rows Inv-loop μ-loop
 cast-rows c = omega (arith, c .before .pre .0 .few)
 
--- src/lib.rt:66:5
 loop-holds : tie.Need-loop-holds Inv-loop μ-loop
 loop-holds c = (omega arith, tally-none _ _ (c .before .pre .1))
 
--- src/lib.rt:67:13
 cap-at-requires : tie.Need-cap-at-requires Inv-loop μ-loop
 cap-at-requires c κs = omega arith
 
--- src/lib.rt:69:25
 row-of-requires : tie.Need-row-of-requires Inv-loop μ-loop
 row-of-requires c κs = search needs
 
--- src/lib.rt:69:25
 cast-first : tie.Need-cast-first Inv-loop μ-loop
 cast-first c = omega (arith, small c)
 
--- src/lib.rt:70:29
 mul-counts : tie.Need-mul-counts Inv-loop μ-loop
 mul-counts c = omega (arith, small c)
 
--- src/lib.rt:70:29
 element-copy-out-counts : tie.Need-element-copy-out-counts Inv-loop μ-loop
 element-copy-out-counts c = small c
 
--- src/lib.rt:70:29
 add-counts : tie.Need-add-counts Inv-loop μ-loop
 add-counts c = let l = turn (c .before) in omega (arith, tally-few _ _ _ (l .before .loop .inv .1) (c .before .before .row-of .result .0) (small (c .before)), l .loop-test .taken, l .before .before .before .pre .0 .few)
 
--- src/lib.rt:70:13
 mul-counts-2 : tie.Need-mul-counts-2 Inv-loop μ-loop
 mul-counts-2 c = omega (arith, small (c .before))
 
--- src/lib.rt:70:13
 element-write-counts : tie.Need-element-write-counts Inv-loop μ-loop
 element-write-counts c = small (c .before)
 
--- src/lib.rt:72:9
 add-row : tie.Need-add-row Inv-loop μ-loop
 add-row c = let l = c .before .before .before in omega (arith, l .loop-test .taken, l .before .before .before .pre .0 .few)
 
--- src/lib.rt:66:5
 loop-less : tie.Need-loop-less Inv-loop μ-loop
 loop-less c = omega arith
 
--- src/lib.rt:66:5
 loop-again : tie.Need-loop-again Inv-loop μ-loop
 loop-again c =
     let l = c .before .before .before in (
@@ -114,7 +97,6 @@ loop-again c =
           (c .if1 .came),
     )
 
--- src/lib.rt:59:1
 returns : tie.Need-returns Inv-loop μ-loop
 returns c =
     let i = c .before .loop .inv in

@@ -1,42 +1,26 @@
 -- `removal::delete` meets its contract: the marks spread from the one row, if it is occupied. Assumes nothing.
-use Prim.Native.Nat.{ℕ, _+_, _*_, _≤_, _<_}
-use mathlib.Core.Path.{_≡_, sym, ap, _∙_}
-use mathlib.Core.Bool.{true}
 use native.Mathlib.Omega.{arith}
 use borrow.Author.Needs.{needs}
 use denote.Ref.{now}
-use lib.ListN.{length}
-use Rattle.model.specs.Edition.{edition32}
-use Rattle.model.specs.Tables.{Tables, capOf}
-use Rattle.model.specs.Rules.{wellFormed}
-use Rattle.removal.specs.Marking.{rowCount}
+use Rattle.model.specs.Tables.{Tables}
 use Rattle.removal.proofs.Tables.{zeros}
 use Rattle.removal.proofs.Nodes.{nodes}
 use Rattle.removal.proofs.Start.{counted-start, waiting-start}
 use Rattle.removal.proofs.Removed.{removes, target-there, target-marked}
 use Rattle.removal.proofs.delete.Statement.{statement}
 use Rattle.removal.proofs.delete.Tie as tie
-use Rattle.removal.proofs.delete.Reads as reads
-use Rattle.removal.proofs.delete.Lts as lts
-use Rattle.removal.proofs.count_names.Reads as count-names-reads
-use Rattle.removal.proofs.mark_row.Reads as mark-row-reads
-use Rattle.removal.proofs.spread.Reads as spread-reads
-use Rattle.removal.proofs.thin.Reads as thin-reads
 
 abbrev given : tie.Start → Tables
 given s = record { table = now (s .args .t); control = now (s .args .control) }
 
--- src/lib.rt:167:5
 count-names-requires : tie.Need-count-names-requires
 count-names-requires c κs = let s = c .before .before .before in (nodes (given s) (s .pre .0), zeros 4096)
 
--- src/lib.rt:168:9
 mark-row-requires : tie.Need-mark-row-requires
 mark-row-requires c κs =
     let s = c .before .before .before .before .before .before .before .before in
     (nodes (given s) (s .pre .0), (counted-start _ _ (nodes (given s) (s .pre .0)) _ _ (zeros 4096) (c .before .before .before .before .count-names .ensures), omega (arith, s .pre .1)))
 
--- src/lib.rt:169:5
 spread-requires : tie.Need-spread-requires
 spread-requires c κs =
     let r = c .before .before .before .before in
@@ -48,15 +32,12 @@ spread-requires c κs =
       ),
     )
 
--- src/lib.rt:170:5
 thin-requires : tie.Need-thin-requires
 thin-requires c κs = search needs
 
--- src/lib.rt:159:1
 same-length : tie.Need-same-length
 same-length c = search needs
 
--- src/lib.rt:159:1
 returns : tie.Need-returns
 returns c =
     let d = c .before .before .before .before .before .before in

@@ -17,10 +17,6 @@ use Rattle.removal.proofs.Marks.{marks-empty, marks-old, marks-plain, m
 use borrow.Author.Needs.{needs}
 use Rattle.removal.proofs.mark_row.Statement.{statement}
 use Rattle.removal.proofs.mark_row.Tie as tie
-use Rattle.removal.proofs.mark_row.Reads as reads
-use Rattle.removal.proofs.mark_row.Lts as lts
-use Rattle.table.proofs.cap_at.Reads as cap-at-reads
-use Rattle.table.proofs.row_of.Reads as row-of-reads
 
 is-empty : (c : tie.After-cap-at) → c .cap-at .result .kind ≡ 0 → isEmpty (capOf (now (c .before .before .args .t)) (c .before .before .args .row)) ≡ true
 unfolding isEmpty
@@ -77,91 +73,71 @@ room c =
     let s = cap-known c .before .before in
     omega (arith, room-left (rowCount (now (s .args .t))) (capOf (now (s .args .t))) (now (s .args .mark)) (s .args .row) (s .pre .1 .1) (in-mark (cap-known c)) (new c) (node-of c) _ (first-of c) (now (s .args .counts)) (inside c) (s .args .filled) (s .pre .1 .0), s .pre .0 .few)
 
--- src/lib.rt:84:9
 cap-at-requires : tie.Need-cap-at-requires
 cap-at-requires c κs = search needs
 
--- src/lib.rt:86:9
 returns : tie.Need-returns
 returns c = let s = c .before .before .before .before in marks-empty _ _ _ _ _ _ _ (is-empty (c .before .before) (c .if1 .taken)) (s .pre .1 .0)
 
--- src/lib.rt:88:8
 mul-if2 : tie.Need-mul-if2
 mul-if2 c = search needs
 
--- src/lib.rt:88:8
 element-copy-out-if2 : tie.Need-element-copy-out-if2
 element-copy-out-if2 c = search needs
 
--- src/lib.rt:89:9
 returns-2 : tie.Need-returns-2
 returns-2 c = let s = c .before .before .before .before .before .before in marks-old _ _ _ _ _ _ _ (is-marked _ _ (c .if2 .taken)) (s .pre .1 .0)
 
--- src/lib.rt:91:5
 mul-mark : tie.Need-mul-mark
 mul-mark c = search needs
 
--- src/lib.rt:91:5
 element-write-mark : tie.Need-element-write-mark
 element-write-mark c = search needs
 
--- src/lib.rt:93:9
 returns-3 : tie.Need-returns-3
 returns-3 c =
     let k = c .before .before .before .before .before .before in
     let s = k .before .before in
     marks-plain _ _ _ _ (s .pre .1 .1) (in-mark k) (unmarked _ _ (c .before .before .if2 .left)) (is-there k (c .before .before .before .before .if1 .left)) _ _ _ (is-plain k (c .if3 .taken)) (s .pre .1 .0)
 
--- src/lib.rt:95:17
 row-of-requires : tie.Need-row-of-requires
 row-of-requires c κs = search needs
 
--- src/lib.rt:95:17
 cast-first : tie.Need-cast-first
 cast-first c = search needs
 
--- src/lib.rt:96:16
 mul-left : tie.Need-mul-left
 mul-left c = search needs
 
--- src/lib.rt:96:16
 element-copy-out-left : tie.Need-element-copy-out-left
 element-copy-out-left c = small c
 
--- src/lib.rt:96:16
 sub-left : tie.Need-sub-left
 sub-left c =
     let s = cap-known (c .before) .before .before in
     omega (arith, left-some (rowCount (now (s .args .t))) (capOf (now (s .args .t))) (now (s .args .mark)) (s .args .row) (s .pre .1 .1) (in-mark (cap-known (c .before))) (new (c .before)) (node-of (c .before)) _ (first-of (c .before)) (now (s .args .counts)) (inside (c .before)) (s .args .filled) (s .pre .1 .0))
 
--- src/lib.rt:97:5
 mul-counts : tie.Need-mul-counts
 mul-counts c = search needs
 
--- src/lib.rt:97:5
 element-write-counts : tie.Need-element-write-counts
 element-write-counts c = small (c .before)
 
--- src/lib.rt:99:9
 returns-4 : tie.Need-returns-4
 returns-4 c =
     let k = c .before .before in
     let s = cap-known k .before .before in
     marks-node _ _ _ _ (s .pre .1 .1) (in-mark (cap-known k)) (new k) (there k) _ _ _ _ (node-of k) (first-of k) (inside k) (s .pre .1 .0) (c .if4 .taken)
 
--- src/lib.rt:101:5
 mul-work : tie.Need-mul-work
 mul-work c = omega (arith, room (c .before .before))
 
--- src/lib.rt:101:5
 element-write-work : tie.Need-element-write-work
 element-write-work c = room (c .before .before)
 
--- src/lib.rt:102:5
 add-result : tie.Need-add-result
 add-result c = omega (arith, room (c .before .before))
 
--- src/lib.rt:77:1
 returns-5 : tie.Need-returns-5
 returns-5 c =
     let k = c .before .before in

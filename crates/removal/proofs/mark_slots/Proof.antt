@@ -1,24 +1,18 @@
 -- `removal::mark_slots` meets its contract. The loop's invariant: the occupied rows from the first slot up to `row` are marked besides.
 -- The measure is how many slots are left. Assumes nothing.
-use Prim.Native.Nat.{_+_, _*_, _-_, _%_, _^_, _≤_, _<_}
+use Prim.Native.Nat.{_+_, _*_, _-_, _%_, _^_, _≤_}
 use mathlib.Core.Path.{_≡_, sym, ap, _∙_}
-use mathlib.Core.Bool.{true}
 use native.Mathlib.Omega.{arith}
 use borrow.Author.Needs.{needs}
 use denote.Ref.{now}
 use Rattle.model.specs.declared.Cap.{Cap}
 use Rattle.model.specs.Edition.{edition32}
-use Rattle.model.specs.Cap.{isCNode, firstRow, slots}
+use Rattle.model.specs.Cap.{firstRow, slots}
 use Rattle.model.specs.Tables.{capOf}
-use Rattle.removal.specs.Marking.{rowCount, Marks, between, only, inNode}
+use Rattle.removal.specs.Marking.{rowCount, Marks, between}
 use Rattle.removal.proofs.Slots.{marks-none, marks-then, marks-as, between-none, between-next, between-all, radix-small, slots-shifted}
 use Rattle.removal.proofs.mark_slots.Statement.{statement}
 use Rattle.removal.proofs.mark_slots.Tie as tie
-use Rattle.removal.proofs.mark_slots.Reads as reads
-use Rattle.removal.proofs.mark_slots.Lts as lts
-use Rattle.removal.proofs.mark_row.Reads as mark-row-reads
-use Rattle.table.proofs.cap_at.Reads as cap-at-reads
-use Rattle.table.proofs.row_of.Reads as row-of-reads
 
 abbrev Inv-loop : tie.InvT-loop
 Inv-loop t node mark₀ counts₀ work₀ filled first end row₀ ready₀ mark counts work row ready =
@@ -50,47 +44,37 @@ few c = omega (arith, fit c, from c .pre .0 .few, ap slots (c .before .before .c
 ends : (c : Node) → firstRow edition32 (named c) + slots (named c) ≡ c .before .row-of .result .0 + 1 * 2 ^ c .before .before .cap-at .result .size % 4294967296
 ends c = omega (arith, begins c, slots-shifted (c .before .before .cap-at .result) (few c), ap slots (c .before .before .cap-at .ensures))
 
--- src/lib.rt:112:9
 cap-at-requires : tie.Need-cap-at-requires Inv-loop μ-loop
 cap-at-requires c κs = search needs
 
--- src/lib.rt:113:17
 row-of-requires : tie.Need-row-of-requires Inv-loop μ-loop
 row-of-requires c κs = search needs
 
--- src/lib.rt:114:24
 shl-end : tie.Need-shl-end Inv-loop μ-loop
 shl-end c = radix-small _ (few c)
 
--- src/lib.rt:114:15
 add-end : tie.Need-add-end Inv-loop μ-loop
 add-end c = omega (arith, ends c, fit c, from c .pre .0 .few)
 
--- src/lib.rt:117:5
 loop-holds : tie.Need-loop-holds Inv-loop μ-loop
 loop-holds c = (omega arith, omega arith, omega (arith, ends c, fit c), marks-none _ _ _ _ _ _ _ (between-none _ _) (from c .pre .1 .0))
 
--- src/lib.rt:118:9
 mark-row-requires : tie.Need-mark-row-requires Inv-loop μ-loop
 mark-row-requires c κs =
     let l = c .before .before .before .before in
     (l .before .before .before .before .before .pre .0, (l .loop .inv .3 .counted, omega (arith, l .loop .inv .2, c .before .before .before .loop-test .taken)))
 
--- src/lib.rt:119:9
 add-row : tie.Need-add-row Inv-loop μ-loop
 add-row c = let l = c .before .before .before .before .before in omega (arith, l .loop .inv .2, l .before .before .before .before .before .pre .0 .few, c .before .before .before .before .loop-test .taken)
 
--- src/lib.rt:117:5
 loop-less : tie.Need-loop-less Inv-loop μ-loop
 loop-less c = omega arith
 
--- src/lib.rt:117:5
 loop-again : tie.Need-loop-again Inv-loop μ-loop
 loop-again c =
     let l = c .before .before .before .before .before in
     (omega (arith, l .loop .inv .0), omega (arith, c .before .before .before .before .loop-test .taken), l .loop .inv .2, marks-then _ _ _ _ _ (λ j. between-next _ _ _ j (l .loop .inv .0)) (l .loop .inv .3) (c .mark-row .ensures))
 
--- src/lib.rt:106:1
 returns : tie.Need-returns Inv-loop μ-loop
 returns c =
     let i = c .before .loop .inv in

@@ -1,6 +1,6 @@
 -- `removal::spread` meets its contract. The loop's invariant: what is counted and what waits, and that the marks have grown only by what
 -- every closed set has. The measure is how many of the places in `work` are not taken. Assumes nothing.
-use Prim.Native.Nat.{_-_, _≤_, _<_}
+use Prim.Native.Nat.{_-_, _<_}
 use native.Mathlib.Omega.{arith}
 use lib.ListN.{getD}
 use denote.Ref.{now}
@@ -10,9 +10,6 @@ use Rattle.removal.proofs.Marking.{counted-few}
 use Rattle.removal.proofs.Spreading.{Growing, growing-none, growing-node, waiting-next, spread-all}
 use Rattle.removal.proofs.spread.Statement.{statement}
 use Rattle.removal.proofs.spread.Tie as tie
-use Rattle.removal.proofs.spread.Reads as reads
-use Rattle.removal.proofs.spread.Lts as lts
-use Rattle.removal.proofs.mark_slots.Reads as mark-slots-reads
 
 abbrev Inv-loop : tie.InvT-loop
 Inv-loop t mark₀ counts₀ work₀ filled ready₀ taken₀ mark counts work ready taken =
@@ -21,7 +18,6 @@ Inv-loop t mark₀ counts₀ work₀ filled ready₀ taken₀ mark counts work r
 abbrev μ-loop : tie.MeasureT-loop
 μ-loop t mark₀ counts₀ work₀ filled ready₀ taken₀ mark counts work ready taken = rowCount t - taken
 
--- src/lib.rt:133:5
 loop-holds : tie.Need-loop-holds Inv-loop μ-loop
 loop-holds c = let s = c .before in (s .pre .1 .0, s .pre .1 .1, growing-none _ _ (s .pre .0) _)
 
@@ -31,29 +27,23 @@ at c = omega (arith, counted-few (c .before .loop .inv .0), c .before .before .b
 lost : (c : tie.In-loop Inv-loop μ-loop) → Lost (rowCount (now (c .before .before .before .args .t))) (capOf (now (c .before .before .before .args .t))) (c .before .loop .counts) (getD (c .before .loop .work) (c .before .loop .taken) 0)
 lost c = c .before .loop .inv .1 .lost (c .before .loop .taken) (omega arith) (c .loop-test .taken)
 
--- src/lib.rt:134:20
 mul-node : tie.Need-mul-node Inv-loop μ-loop
 mul-node c = omega (arith, at c)
 
--- src/lib.rt:134:20
 element-copy-out-node : tie.Need-element-copy-out-node Inv-loop μ-loop
 element-copy-out-node c = at c
 
--- src/lib.rt:135:9
 mark-slots-requires : tie.Need-mark-slots-requires Inv-loop μ-loop
 mark-slots-requires c κs =
     let l = c .before .before .before .before in
     (l .before .before .before .pre .0, (l .before .loop .inv .0, (lost l .inTable, lost l .node)))
 
--- src/lib.rt:136:9
 add-taken : tie.Need-add-taken Inv-loop μ-loop
 add-taken c = omega (arith, at (c .before .before .before .before .before))
 
--- src/lib.rt:133:5
 loop-less : tie.Need-loop-less Inv-loop μ-loop
 loop-less c = let l = c .before .before .before .before .before in omega (arith, counted-few (l .before .loop .inv .0), l .loop-test .taken)
 
--- src/lib.rt:133:5
 loop-again : tie.Need-loop-again Inv-loop μ-loop
 loop-again c =
     let l = c .before .before .before .before .before in
@@ -64,7 +54,6 @@ loop-again c =
       growing-node _ _ n _ (i .0) (lost l) (c .mark-slots .ensures) (i .2),
     )
 
--- src/lib.rt:125:1
 returns : tie.Need-returns Inv-loop μ-loop
 returns c = let i = c .before .loop .inv in spread-all _ _ (c .before .before .before .pre .0) (c .before .loop .taken) (c .loop-test .left) (i .0) (i .1) (i .2)
 

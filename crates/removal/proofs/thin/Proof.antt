@@ -1,9 +1,8 @@
 -- `removal::thin` meets its contract. The loop's invariant is a walk along the list: what is passed is thinned, what is to come is as it
 -- was. The measure is how many rows are to come. Assumes nothing.
 use Prim.Native.Nat.{_+_, _*_, _-_, _≤_, _<_}
-use mathlib.Core.Path.{_≡_, refl, sym, ap, _∙_}
+use mathlib.Core.Path.{refl, sym, ap, _∙_}
 use mathlib.Core.Logic.{⊎-elim}
-use mathlib.Core.Bool.{true, false}
 use native.Mathlib.Omega.{arith}
 use borrow.Author.Needs.{needs}
 use lib.ListN.{length, getD, set}
@@ -16,12 +15,6 @@ use Rattle.removal.proofs.Walking.{Walked, walk-row, walk-small, walk-l
 use Rattle.removal.proofs.Tables.{whole, zeros, rowsOfTables, rows-small, table-long, walk-start, thins}
 use Rattle.removal.proofs.thin.Statement.{statement}
 use Rattle.removal.proofs.thin.Tie as tie
-use Rattle.removal.proofs.thin.Reads as reads
-use Rattle.removal.proofs.thin.Lts as lts
-use Rattle.removal.proofs.first_kept.Reads as first-kept-reads
-use Rattle.table.proofs.stores.put.Reads as put-reads
-use Rattle.table.proofs.stores.unlink.Reads as unlink-reads
-use Rattle.table.proofs.word.Reads as word-reads
 
 abbrev Inv-loop : tie.InvT-loop
 Inv-loop t₀ control mark total low₀ row₀ left₀ last₀ head₀ kept₀ t low row left last head kept =
@@ -52,108 +45,83 @@ turn c = c .before .before .before .before
 depth-small : (c : Read) → c .word2 .result < 4096
 depth-small c = omega (arith, c .word2 .ensures, walk-small _ _ _ _ _ _ _ _ _ _ _ _ (turn c .before .loop .inv) (turn c .loop-test .taken))
 
--- src/lib.rt:116:17
 element-copy-out-total : tie.Need-element-copy-out-total Inv-loop μ-loop
 element-copy-out-total c = search needs
 
--- src/lib.rt:118:19
 element-copy-out-row : tie.Need-element-copy-out-row Inv-loop μ-loop
 element-copy-out-row c = search needs
 
--- src/lib.rt:123:5
 loop-holds : tie.Need-loop-holds Inv-loop μ-loop
 loop-holds c = let s = c .before .before .before in walk-start (record { table = now (s .args .t); control = now (s .args .control) }) (s .pre) _ _ (zeros 4097)
 
--- src/lib.rt:124:13
 word-requires : tie.Need-word-requires Inv-loop μ-loop
 word-requires c κs = (omega arith, in-table (c .before))
 
--- src/lib.rt:125:21
 word-requires-2 : tie.Need-word-requires-2 Inv-loop μ-loop
 word-requires-2 c κs = (omega arith, in-table (c .before .before .before))
 
--- src/lib.rt:125:21
 cast-depth : tie.Need-cast-depth Inv-loop μ-loop
 cast-depth c = omega (arith, depth-small c)
 
--- src/lib.rt:126:21
 mul-level : tie.Need-mul-level Inv-loop μ-loop
 mul-level c = omega (arith, depth-small c)
 
--- src/lib.rt:126:21
 array-read-level : tie.Need-array-read-level Inv-loop μ-loop
 array-read-level c = omega (arith, depth-small c)
 
--- src/lib.rt:127:17
 cast-if1 : tie.Need-cast-if1 Inv-loop μ-loop
 cast-if1 c = omega (arith, at-row (turn c))
 
--- src/lib.rt:127:12
 mul-if1 : tie.Need-mul-if1 Inv-loop μ-loop
 mul-if1 c = omega (arith, at-row (turn c))
 
--- src/lib.rt:127:12
 element-copy-out-if1 : tie.Need-element-copy-out-if1 Inv-loop μ-loop
 element-copy-out-if1 c = at-row (turn c)
 
--- src/lib.rt:128:13
 unlink-requires : tie.Need-unlink-requires Inv-loop μ-loop
 unlink-requires c κs = in-table (turn (c .before .before .before))
 
--- src/lib.rt:129:17
 add-low : tie.Need-add-low Inv-loop μ-loop
 add-low c = omega (arith, depth-small (c .before .before .before .before .before .before))
 
--- src/lib.rt:129:13
 mul-low : tie.Need-mul-low Inv-loop μ-loop
 mul-low c = omega (arith, depth-small (c .before .before .before .before .before .before))
 
--- src/lib.rt:129:13
 array-write-low : tie.Need-array-write-low Inv-loop μ-loop
 array-write-low c = omega (arith, depth-small (c .before .before .before .before .before .before))
 
--- src/lib.rt:131:13
 put-requires : tie.Need-put-requires Inv-loop μ-loop
 put-requires c κs = (omega arith, in-table (turn (c .before .before .before)))
 
--- src/lib.rt:132:30
 add-low-2 : tie.Need-add-low-2 Inv-loop μ-loop
 add-low-2 c =
     let r = c .before .before .before .before .before .before in
     let w = turn r .before .loop .inv in
     omega (arith, walk-level _ _ _ _ _ _ _ _ _ _ _ _ w (r .word2 .result), walk-fit _ _ _ _ _ _ _ _ _ _ _ _ w, walk-few _ _ _ _ _ _ _ _ _ _ _ _ w)
 
--- src/lib.rt:132:17
 add-low-3 : tie.Need-add-low-3 Inv-loop μ-loop
 add-low-3 c = omega (arith, depth-small (c .before .before .before .before .before .before))
 
--- src/lib.rt:132:13
 mul-low-2 : tie.Need-mul-low-2 Inv-loop μ-loop
 mul-low-2 c = omega (arith, depth-small (c .before .before .before .before .before .before))
 
--- src/lib.rt:132:13
 array-write-low-2 : tie.Need-array-write-low-2 Inv-loop μ-loop
 array-write-low-2 c = omega (arith, depth-small (c .before .before .before .before .before .before))
 
--- src/lib.rt:133:13
 first-kept-requires : tie.Need-first-kept-requires Inv-loop μ-loop
 first-kept-requires c κs = search needs
 
--- src/lib.rt:135:13
 add-kept : tie.Need-add-kept Inv-loop μ-loop
 add-kept c =
     let w = turn (c .before .before .before .before .before .before .before) .before .loop .inv in
     omega (arith, walk-fit _ _ _ _ _ _ _ _ _ _ _ _ w, walk-few _ _ _ _ _ _ _ _ _ _ _ _ w)
 
--- src/lib.rt:138:9
 sub-left : tie.Need-sub-left Inv-loop μ-loop
 sub-left c = turn (c .before .before) .loop-test .taken
 
--- src/lib.rt:123:5
 loop-less : tie.Need-loop-less Inv-loop μ-loop
 loop-less c = omega (arith, turn (c .before .before) .loop-test .taken)
 
--- src/lib.rt:123:5
 loop-again : tie.Need-loop-again Inv-loop μ-loop
 loop-again c =
     let r = c .before .before in
@@ -169,25 +137,20 @@ loop-again c =
     (λ w. walk-as _ _ _ _ _ _ _ _ _ _ _ _ (w .6 ∙ w .2 .ensures ∙ ap (λ d. set v (k * 8 + 7) (getD low d 0)) (r .word2 .ensures)) (w .7 ∙ ap (λ d. set low (d + 1) (getD low d 0 + 1)) (r .word2 .ensures)) next refl (w .8) (w .9 ∙ w .5 .ensures) (w .10) (walk-keep _ _ _ _ _ _ _ _ _ _ _ _ i more (unmarked _ _ (w .0 .left))))
     (c .if1 .came)
 
--- src/lib.rt:140:5
 element-write-control : tie.Need-element-write-control Inv-loop μ-loop
 element-write-control c = search needs
 
--- src/lib.rt:141:5
 element-write-control-2 : tie.Need-element-write-control-2 Inv-loop μ-loop
 element-write-control-2 c = search needs
 
--- src/lib.rt:142:5
 sub-result : tie.Need-sub-result Inv-loop μ-loop
 sub-result c = omega (arith, walk-fit _ _ _ _ _ _ _ _ _ _ _ _ (c .before .loop .inv))
 
--- src/lib.rt:112:1
 same-length : tie.Need-same-length Inv-loop μ-loop
 same-length c =
     let s = c .before .before .before .before .before in
     walk-long _ _ _ _ _ _ _ _ _ _ _ _ (c .before .loop .inv) ∙ sym (table-long (record { table = now (s .args .t); control = now (s .args .control) }) (s .pre))
 
--- src/lib.rt:112:1
 returns : tie.Need-returns Inv-loop μ-loop
 returns c =
     let s = c .before .before .before .before .before in

@@ -1,83 +1,61 @@
-use Rattle.transfer.specs.Lent.{lent}
-use denote.Ref.{now}
 -- All words are read before the first is stored, and the stores are those of `exchanges`.
-use Rattle.model.proofs.Words.Swapped.{swapped}
 use mathlib.Core.Path.{ap, _∙_}
-use Rattle.transfer.proofs.Stored.{exchanges}
+use denote.Ref.{now}
 use borrow.Author.Needs.{needs}
+use Rattle.model.proofs.Words.Swapped.{swapped}
+use Rattle.transfer.specs.Lent.{lent}
+use Rattle.transfer.proofs.Stored.{exchanges}
 use Rattle.transfer.proofs.shifts.exchange.Statement.{statement}
 use Rattle.transfer.proofs.shifts.exchange.Tie as tie
-use Rattle.transfer.proofs.shifts.exchange.Reads as reads
-use Rattle.transfer.proofs.shifts.exchange.Lts as lts
-use Rattle.table.proofs.word.Reads as word-reads
-use Rattle.transfer.proofs.shifts.link_between.Reads as link-between-reads
-use Rattle.transfer.proofs.shifts.swapped.Reads as swapped-reads
 
--- src/shifts.rt:65:32
 word-requires : tie.Need-word-requires
 word-requires c κs = search needs
 
--- src/shifts.rt:65:9
 swapped-requires : tie.Need-swapped-requires
 swapped-requires c κs = search needs
 
--- src/shifts.rt:66:32
 word-requires-2 : tie.Need-word-requires-2
 word-requires-2 c κs = search needs
 
--- src/shifts.rt:66:9
 swapped-requires-2 : tie.Need-swapped-requires-2
 swapped-requires-2 c κs = search needs
 
--- src/shifts.rt:67:9
 word-requires-3 : tie.Need-word-requires-3
 word-requires-3 c κs = search needs
 
--- src/shifts.rt:68:32
 word-requires-4 : tie.Need-word-requires-4
 word-requires-4 c κs = search needs
 
--- src/shifts.rt:68:9
 swapped-requires-3 : tie.Need-swapped-requires-3
 swapped-requires-3 c κs = search needs
 
--- src/shifts.rt:69:32
 word-requires-5 : tie.Need-word-requires-5
 word-requires-5 c κs = search needs
 
--- src/shifts.rt:69:9
 swapped-requires-4 : tie.Need-swapped-requires-4
 swapped-requires-4 c κs = search needs
 
--- src/shifts.rt:70:9
 word-requires-6 : tie.Need-word-requires-6
 word-requires-6 c κs = search needs
 
--- src/shifts.rt:71:5
 link-between-requires : tie.Need-link-between-requires
 link-between-requires c κs = search needs
 
--- src/shifts.rt:72:5
 link-between-requires-2 : tie.Need-link-between-requires-2
 link-between-requires-2 c κs = search needs
 
--- src/shifts.rt:73:32
 element-copy-out-swapped : tie.Need-element-copy-out-swapped
 element-copy-out-swapped c = search needs
 
--- src/shifts.rt:73:18
 swapped-requires-5 : tie.Need-swapped-requires-5
 swapped-requires-5 c κs = search needs
 
--- src/shifts.rt:73:5
 element-write-control : tie.Need-element-write-control
 element-write-control c = search needs
 
--- src/shifts.rt:61:1
 same-length : tie.Need-same-length
 same-length c = search needs
 
--- src/shifts.rt:61:1
 returns : tie.Need-returns
 returns c = let a = c .before .before .before .before .before .before .before .before .before .before .before .before .before .before .before .before .before .before .before .before .before .before .before .before .before .before .before .args in exchanges (lent (now (a .t)) (now (a .control))) (a .a .0) (a .b .0) (a .c) (a .d) _ _ _ _ _ _ _ _ _ (c .before .before .before .before .before .before .before .before .before .before .before .before .before .before .before .before .before .before .before .before .before .before .before .swapped .ensures ∙ ap (swapped (a .a .0) (a .b .0)) (c .before .before .before .before .before .before .before .before .before .before .before .before .before .before .before .before .before .before .before .before .before .before .before .before .word .ensures)) (c .before .before .before .before .before .before .before .before .before .before .before .before .before .before .before .before .before .before .before .before .swapped2 .ensures ∙ ap (swapped (a .a .0) (a .b .0)) (c .before .before .before .before .before .before .before .before .before .before .before .before .before .before .before .before .before .before .before .before .before .word2 .ensures)) (c .before .before .before .before .before .before .before .before .before .before .before .before .before .before .before .before .before .before .word3 .ensures) (c .before .before .before .before .before .before .before .before .before .before .before .before .before .before .before .swapped3 .ensures ∙ ap (swapped (a .a .0) (a .b .0)) (c .before .before .before .before .before .before .before .before .before .before .before .before .before .before .before .before .word4 .ensures)) (c .before .before .before .before .before .before .before .before .before .before .before .before .swapped4 .ensures ∙ ap (swapped (a .a .0) (a .b .0)) (c .before .before .before .before .before .before .before .before .before .before .before .before .before .word5 .ensures)) (c .before .before .before .before .before .before .before .before .before .before .word6 .ensures) (c .before .before .before .before .before .before .before .before .link-between .ensures) (c .before .before .before .before .link-between2 .ensures) (c .swapped5 .ensures)
 

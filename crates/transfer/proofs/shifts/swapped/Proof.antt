@@ -1,22 +1,17 @@
 -- The two tests of the definition.
-use Rattle.model.proofs.Words.Swapped.{swapped}
 use borrow.Author.Tests.{eq-eqb, ne-eqb}
+use Rattle.model.proofs.Words.Swapped.{swapped}
 use Rattle.transfer.proofs.shifts.swapped.Statement.{statement}
 use Rattle.transfer.proofs.shifts.swapped.Tie as tie
-use Rattle.transfer.proofs.shifts.swapped.Reads as reads
-use Rattle.transfer.proofs.shifts.swapped.Lts as lts
 
--- src/shifts.rt:41:9
 returns : tie.Need-returns
 unfolding swapped
 returns c = rw (eq-eqb _ _ (c .if1 .taken))
 
--- src/shifts.rt:44:9
 returns-2 : tie.Need-returns-2
 unfolding swapped
 returns-2 c = rw (ne-eqb _ _ (c .before .before .if1 .left), eq-eqb _ _ (c .if2 .taken))
 
--- src/shifts.rt:37:1
 returns-3 : tie.Need-returns-3
 unfolding swapped
 returns-3 c = rw (ne-eqb _ _ (c .before .before .if1 .left), ne-eqb _ _ (c .if2 .left))

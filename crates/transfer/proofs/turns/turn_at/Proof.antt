@@ -1,35 +1,27 @@
+-- The law of `Turning` for each way out.
+-- The law of `Turning` for each way out.
+use mathlib.Core.Bool.{false, not, _&&_, _||_}
+use mathlib.Core.Path.{_≡_, _∙_, ap₂}
+use mathlib.Core.Logic.{⊎-elim}
+use lib.Dec.{eqb}
+use denote.Ref.{now}
+use borrow.Author.Needs.{needs}
 use Rattle.model.specs.Edition.{edition32}
 use Rattle.model.specs.declared.Cap.{Cap}
-use Rattle.transfer.specs.Turns.{turnCaps}
 use Rattle.model.specs.Tables.{capOf}
 use Rattle.model.specs.Cap.{isEmpty}
-use denote.Ref.{now}
-use lib.Dec.{eqb}
-use mathlib.Core.Bool.{true, false, not, _&&_, _||_}
-use mathlib.Core.Path.{_≡_, ap, sym, _∙_, ap₂}
-use Prim.Native.Nat.{ℕ}
--- The law of `Turning` for each way out.
+use Rattle.transfer.specs.Turns.{turnCaps}
 use Rattle.transfer.proofs.Turning.{equal-first, equal-second, equal-none, empty-there, held-there, both-true, first-false, second-false}
--- The law of `Turning` for each way out.
-use mathlib.Core.Logic.{⊎-elim}
 use Rattle.transfer.proofs.Turning.{not-apart, occupied, source-missing, pivot-missing, turns-on}
-use borrow.Author.Needs.{needs}
 use Rattle.transfer.proofs.turns.turn_at.Statement.{statement}
 use Rattle.transfer.proofs.turns.turn_at.Tie as tie
-use Rattle.transfer.proofs.turns.turn_at.Reads as reads
-use Rattle.transfer.proofs.turns.turn_at.Lts as lts
-use Rattle.table.proofs.cap_at.Reads as cap-at-reads
-use Rattle.transfer.proofs.turns.turn_caps.Reads as turn-caps-reads
 
--- src/turns.rt:100:9
 returns : tie.Need-returns
 returns c = not-apart _ _ _ _ _ _ (⊎-elim (λ w. equal-first _ _ _ (w .taken)) (λ w. equal-second _ _ _ (w .0 .left) (w .2 .taken)) (c .if1 .came))
 
--- src/turns.rt:102:9
 cap-at-requires : tie.Need-cap-at-requires
 cap-at-requires c κs = search needs
 
--- src/turns.rt:104:9
 returns-2 : tie.Need-returns-2
 returns-2 c = occupied _ _ _ _ _ _ (equal-none _ _ _ (c .before .before .before .before .before .before .before .if1 .left) (c .before .before .before .before .before .if2 .left)) (both-true (held-there _ _ _ (c .before .before .before .before .cap-at .ensures) (c .before .before .if3 .taken)) (c .if4 .taken))
 
@@ -49,27 +41,21 @@ vacant j =
     (j .if3 .came)
 
 
--- src/turns.rt:106:9
 cap-at-requires-2 : tie.Need-cap-at-requires-2
 cap-at-requires-2 c κs = search needs
 
--- src/turns.rt:108:9
 returns-3 : tie.Need-returns-3
 returns-3 c = source-missing _ _ _ _ _ _ (differ (c .before .before .before)) (vacant (c .before .before .before)) (empty-there _ _ _ (c .before .before .cap-at2 .ensures) (c .if5 .taken))
 
--- src/turns.rt:113:9
 cap-at-requires-3 : tie.Need-cap-at-requires-3
 cap-at-requires-3 c κs = search needs
 
--- src/turns.rt:115:9
 returns-4 : tie.Need-returns-4
 returns-4 c = pivot-missing _ _ _ _ _ _ (differ (c .before .before .before .before .before .before)) (vacant (c .before .before .before .before .before .before)) (held-there _ _ _ (c .before .before .before .before .before .cap-at2 .ensures) (c .before .before .before .if5 .left)) (empty-there _ _ _ (c .before .before .cap-at3 .ensures) (c .if6 .taken))
 
--- src/turns.rt:120:5
 turn-caps-requires : tie.Need-turn-caps-requires
 turn-caps-requires c κs = search needs
 
--- src/turns.rt:95:1
 returns-5 : tie.Need-returns-5
 returns-5 c = turns-on _ _ _ _ _ _ (differ (c .before .before .before .before .before .before .before)) (vacant (c .before .before .before .before .before .before .before)) (held-there _ _ _ (c .before .before .before .before .before .before .cap-at2 .ensures) (c .before .before .before .before .if5 .left)) (held-there _ _ _ (c .before .before .before .cap-at3 .ensures) (c .before .if6 .left)) _ (c .turn-caps .ensures ∙ ap₂ (λ (p s : Cap). turnCaps edition32 (c .before .before .before .before .before .before .before .before .before .before .before .before .before .before .before .args .rows) p s (c .before .before .before .before .before .before .before .before .before .before .before .before .before .before .before .args .datum) (c .before .before .before .before .before .before .before .before .before .before .before .before .before .before .before .args .pivot-datum)) (c .before .before .before .cap-at3 .ensures) (c .before .before .before .before .before .before .cap-at2 .ensures))
 

@@ -1,0 +1,104 @@
+-- `retype::laying::lay_out` meets its contract: the watermark stored, then the run of new rows, then the count.
+-- Assumes nothing.
+use Prim.Native.Nat.{_≤_}
+use native.Mathlib.Omega.{arith}
+use Rattle.retype.proofs.Sizes.{exponent-small}
+use Rattle.retype.proofs.Making.{shifted, laid}
+use borrow.Author.Needs.{needs}
+use Rattle.retype.proofs.laying.lay_out.Statement.{statement}
+use Rattle.retype.proofs.laying.lay_out.Tie as tie
+
+word-requires : tie.Need-word-requires
+word-requires c κs = search needs
+
+add-address : tie.Need-add-address
+add-address c = search needs
+
+word-requires-2 : tie.Need-word-requires-2
+word-requires-2 c κs = search needs
+
+word-requires-3 : tie.Need-word-requires-3
+word-requires-3 c κs = search needs
+
+add-depth : tie.Need-add-depth
+add-depth c = search needs
+
+exponent-requires : tie.Need-exponent-requires
+exponent-requires c κs = search needs
+
+small : (k : tie.After-exponent) → k .exponent .result ≤ 34
+small k = rw (k .exponent .ensures) (exponent-small _ _ (k .before .before .before .before .before .before .before .before .pre .room .known))
+
+cast-e : tie.Need-cast-e
+cast-e c = omega (arith, small c)
+
+cast-end : tie.Need-cast-end
+cast-end c = search needs
+
+cast-end-2 : tie.Need-cast-end-2
+cast-end-2 c = search needs
+
+shl-end : tie.Need-shl-end
+shl-end c = omega (arith, small (c .before))
+
+add-end : tie.Need-add-end
+add-end c =
+    let start = c .before .before .before .before .before .before .before .before .before in
+    rw (shifted _ _ _ _ _ (start .pre) _ (c .before .exponent .ensures)) (omega (arith, start .pre .end))
+
+cast-put : tie.Need-cast-put
+cast-put c =
+    let start = c .before .before .before .before .before .before .before .before .before .before in
+    rw (shifted _ _ _ _ _ (start .pre) _ (c .before .before .exponent .ensures)) (omega (arith, start .pre .end))
+
+put-requires : tie.Need-put-requires
+put-requires c κs = search needs
+
+link-new-requires : tie.Need-link-new-requires
+link-new-requires c κs = search needs
+
+element-copy-out-control : tie.Need-element-copy-out-control
+element-copy-out-control c = search needs
+
+add-control : tie.Need-add-control
+add-control c =
+    let start = c .before .before .before .before .before .before .before .before .before .before .before .before .before .before .before .before .before .before .before in
+    omega (arith, start .pre .count, start .pre .room .few)
+
+element-write-control : tie.Need-element-write-control
+element-write-control c = search needs
+
+same-length : tie.Need-same-length
+same-length c = search needs
+
+returns : tie.Need-returns
+returns c =
+    let sized = c .before .before .before .before .before .before .before .before .before .before .before in
+    let words = sized .before in
+    let start = words .before .before .before .before .before .before .before in
+    laid _ _ _ _ _ _ _ _ _ _ _ (words .before .before .before .before .word .ensures) (words .before .before .word2 .ensures) (words .word3 .ensures)
+    (shifted _ _ _ _ _ (start .pre) _ (sized .exponent .ensures)) (c .before .before .before .before .before .before .before .before .put .ensures) (c .before .before .before .before .link-new .ensures)
+
+pub lay-out-spec : {M : Type 1} → statement M
+lay-out-spec =
+    tie.close
+    (tie.spec
+    word-requires
+    add-address
+    word-requires-2
+    word-requires-3
+    add-depth
+    exponent-requires
+    cast-e
+    cast-end
+    cast-end-2
+    shl-end
+    add-end
+    cast-put
+    put-requires
+    link-new-requires
+    element-copy-out-control
+    add-control
+    element-write-control
+    same-length
+    returns)
