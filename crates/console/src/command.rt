@@ -1,0 +1,236 @@
+// What a line asks for, and that it is done.
+use crate::line::Line;
+use crate::line::says_nothing;
+use crate::output::Pen;
+use crate::output::put_text;
+use crate::show::put_answer;
+use crate::show::show;
+ghost use mathlib.Core.Path.{_≡_};
+ghost use lib.ListN.{length};
+
+// What a line asks for.
+pub enum Command {
+    Nothing,
+    Boot,
+    Size,
+    Control,
+    Row,
+    Ask,
+    Show,
+    Bad,
+}
+
+// What is kept from line to line: how many words of the table are lent, and what is to be written.
+pub struct Desk {
+    pub lent: usize,
+    pub pen: Pen,
+}
+
+// A command by the key of its first word and the count of its numbers.
+fn by_key(key: u64, count: usize) -> Command {
+    match key {
+        0x1626f6f74 => {
+            if count == 2 {
+                return Command::Boot;
+            }
+        }
+        0x173697a65 => {
+            if count == 1 {
+                return Command::Size;
+            }
+        }
+        0x1636f6e74726f6c => {
+            if count == 4 {
+                return Command::Control;
+            }
+        }
+        0x1726f77 => {
+            if count == 9 {
+                return Command::Row;
+            }
+        }
+        0x161736b => {
+            if 1 <= count {
+                return Command::Ask;
+            }
+        }
+        0x173686f77 => {
+            if count == 0 {
+                return Command::Show;
+            }
+        }
+        _ => {}
+    }
+    Command::Bad
+}
+
+// What a whole line asks for.
+fn command_of(line: Line) -> Command {
+    if says_nothing(line) {
+        return Command::Nothing;
+    }
+    if line.bad {
+        return Command::Bad;
+    }
+    by_key(line.key, line.count)
+}
+
+// A line that is refused.
+fn bad(out: &mut [u8], desk: Desk) -> Desk {
+    let pen = put_text(out, desk.pen, b"bad\n");
+    Desk {
+        lent: desk.lent,
+        pen,
+    }
+}
+
+// A line that is done, with nothing else to say.
+fn ok(out: &mut [u8], desk: Desk) -> Desk {
+    let pen = put_text(out, desk.pen, b"ok\n");
+    Desk {
+        lent: desk.lent,
+        pen,
+    }
+}
+
+// Sets words to 0.
+fn clear(words: &mut [u32]) {
+    let mut i = 0;
+    while i < words.len() {
+        words[i] = 0;
+        i += 1;
+    }
+}
+
+// The words of a table for an m in Boot's range, else 0.
+fn words_for(m: u32) -> usize {
+    if m < 10 {
+        return 0;
+    }
+    if 16 < m {
+        return 0;
+    }
+    8usize << (m - 4)
+}
+
+// The first words of the table become 0 and are lent, if it has as many; else what was lent stays so.
+fn lend(table: &mut [u32], words: usize, lent: usize) -> usize {
+    if words <= table.len() {
+        clear(&mut table[0..words]);
+        return words;
+    }
+    lent
+}
+
+// Boot's table: for an m in range a zero table of the length that fits, else what was lent.
+fn lend_for(table: &mut [u32], m: u32, lent: usize) -> usize {
+    let words = words_for(m);
+    if words == 0 {
+        return lent;
+    }
+    lend(table, words, lent)
+}
+
+// Boot on the lent table, and its answer.
+fn boot_lent(
+    table: &mut [u32],
+    control: &mut [u32; 4],
+    out: &mut [u8],
+    desk: Desk,
+    m: u32,
+    r: u32,
+) -> Desk {
+    let lent = desk.lent;
+    if lent <= table.len() {
+        let answer = core::boot(&mut table[0..lent], control, m, r);
+        let pen = put_answer(out, desk.pen, core::answer_words(answer));
+        return Desk { lent, pen };
+    }
+    desk
+}
+
+// `boot M R`
+fn boot(
+    table: &mut [u32],
+    control: &mut [u32; 4],
+    out: &mut [u8],
+    desk: Desk,
+    m: u32,
+    r: u32,
+) -> Desk {
+    let mut ready = desk;
+    ready.lent = lend_for(table, m, desk.lent);
+    boot_lent(table, control, out, ready, m, r)
+}
+
+// `size N`: a table of N zero words, and control words 0.
+fn size(table: &mut [u32], control: &mut [u32; 4], out: &mut [u8], desk: Desk, n: u32) -> Desk {
+    let words = n as usize;
+    if table.len() < words {
+        return bad(out, desk);
+    }
+    let mut ready = desk;
+    ready.lent = lend(table, words, desk.lent);
+    *control = [0; 4];
+    ok(out, ready)
+}
+
+// The eight words of a row are those after the first of a line's numbers.
+fn put_row(row: &mut [u32], numbers: &[u32; 17])
+    requires { ⌜ length (now row) ≡ 8 ⌝ }
+{
+    let mut i = 0;
+    while i < 8 {
+        row[i] = numbers[i + 1];
+        i += 1;
+    }
+}
+
+// `row K A B C D E F G H`: sets row K, if it is wholly in the lent table.
+fn set_row(table: &mut [u32], out: &mut [u8], desk: Desk, k: u32, numbers: &[u32; 17]) -> Desk {
+    let lent = desk.lent;
+    let from = k as usize * 8;
+    let end = from + 8;
+    if lent < end {
+        return bad(out, desk);
+    }
+    if table.len() < end {
+        return bad(out, desk);
+    }
+    put_row(&mut table[from..end], numbers);
+    ok(out, desk)
+}
+
+// `show`
+fn show_lent(table: &[u32], control: &[u32; 4], out: &mut [u8], desk: Desk) -> Desk {
+    let lent = desk.lent;
+    if lent <= table.len() {
+        let pen = show(&table[0..lent], control, out, desk.pen);
+        return Desk { lent, pen };
+    }
+    desk
+}
+
+// Does what a line asks for.
+pub fn obey(
+    table: &mut [u32],
+    control: &mut [u32; 4],
+    out: &mut [u8],
+    desk: Desk,
+    line: Line,
+    numbers: &[u32; 17],
+) -> Desk {
+    let command = command_of(line);
+    match command {
+        Command::Nothing => desk,
+        Command::Boot => boot(table, control, out, desk, numbers[0], numbers[1]),
+        Command::Size => size(table, control, out, desk, numbers[0]),
+        Command::Control => {
+            *control = [numbers[0], numbers[1], numbers[2], numbers[3]];
+            ok(out, desk)
+        }
+        Command::Row => set_row(table, out, desk, numbers[0], numbers),
+        Command::Show => show_lent(table, control, out, desk),
+        _ => bad(out, desk),
+    }
+}

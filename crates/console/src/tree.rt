@@ -1,0 +1,129 @@
+// The derivation tree, drawn for a person: a line for each listed row, indented by its depth.
+use crate::output::Pen;
+use crate::output::put_byte;
+use crate::output::put_number;
+use crate::output::put_text;
+use model::Cap;
+use model::Row;
+
+// The row after a row in the list; a row out of the table is its own.
+pub fn next_row(table: &[u32], row: u32) -> u32 {
+    let end = row as usize * 8 + 8;
+    if end <= table.len() {
+        return table::word(table, Row(row), 5);
+    }
+    row
+}
+
+// Two spaces for each depth.
+fn put_indent(out: &mut [u8], pen: Pen, depth: u32) -> Pen {
+    let mut p = pen;
+    let mut left = depth;
+    while 0 < left {
+        p = put_text(out, p, b"  ");
+        left -= 1;
+    }
+    p
+}
+
+// A name and a number.
+fn put_named(out: &mut [u8], pen: Pen, name: &[u8], n: u32) -> Pen {
+    let p = put_text(out, pen, name);
+    put_number(out, p, n as u64)
+}
+
+// The name of a kind.
+fn put_kind(out: &mut [u8], pen: Pen, kind: u32) -> Pen {
+    match kind {
+        1 => put_text(out, pen, b"Untyped"),
+        2 => put_text(out, pen, b"TCB"),
+        3 => put_text(out, pen, b"Endpoint"),
+        4 => put_text(out, pen, b"Notification"),
+        5 => put_text(out, pen, b"CNode"),
+        _ => put_text(out, pen, b"Frame"),
+    }
+}
+
+// Rights: write 1, read 2, grant 4.
+fn put_rights(out: &mut [u8], pen: Pen, rights: u32) -> Pen {
+    let p = put_text(out, pen, b" rights ");
+    match rights {
+        0 => put_text(out, p, b"none"),
+        1 => put_text(out, p, b"write"),
+        2 => put_text(out, p, b"read"),
+        3 => put_text(out, p, b"write+read"),
+        4 => put_text(out, p, b"grant"),
+        5 => put_text(out, p, b"write+grant"),
+        6 => put_text(out, p, b"read+grant"),
+        _ => put_text(out, p, b"write+read+grant"),
+    }
+}
+
+// The bytes of an Untyped, from its size.
+fn put_bytes(out: &mut [u8], pen: Pen, size: u32) -> Pen {
+    let p = put_text(out, pen, b" bytes ");
+    if size < 64 {
+        return put_number(out, p, table::size::pow2(size));
+    }
+    p
+}
+
+// What a capability holds beside its kind and address.
+fn put_details(out: &mut [u8], pen: Pen, cap: Cap) -> Pen {
+    let kind = cap.kind;
+    match kind {
+        1 => {
+            let p = put_bytes(out, pen, cap.size);
+            put_named(out, p, b" watermark ", cap.third)
+        }
+        2 => pen,
+        3 | 4 => {
+            let p = put_named(out, pen, b" badge ", cap.third);
+            put_rights(out, p, cap.fourth)
+        }
+        5 => {
+            let mut p = put_named(out, pen, b" radix ", cap.size);
+            p = put_named(out, p, b" guard ", cap.third);
+            put_named(out, p, b" size ", cap.fourth)
+        }
+        _ => put_rights(out, pen, cap.fourth),
+    }
+}
+
+// The start of a row's line: its depth and its number.
+fn put_row(out: &mut [u8], pen: Pen, row: u32, depth: u32) -> Pen {
+    let mut p = put_indent(out, pen, depth);
+    p = put_named(out, p, b"row ", row);
+    put_byte(out, p, b' ')
+}
+
+// The rest of a row's line: its capability.
+fn put_cap(out: &mut [u8], pen: Pen, cap: Cap) -> Pen {
+    let mut p = put_kind(out, pen, cap.kind);
+    p = put_named(out, p, b" address ", cap.address.0);
+    p = put_details(out, p, cap);
+    put_byte(out, p, b'\n')
+}
+
+// The line of a row of the table.
+fn draw_row(table: &[u32], out: &mut [u8], pen: Pen, row: u32) -> Pen {
+    let end = row as usize * 8 + 8;
+    if table.len() < end {
+        return pen;
+    }
+    let p = put_row(out, pen, row, table::word(table, Row(row), 7));
+    put_cap(out, p, table::cap_at(table, Row(row)))
+}
+
+// A line for each of the listed rows, from the head on, and `end`.
+pub fn draw(table: &[u32], head: u32, count: u32, out: &mut [u8], pen: Pen) -> Pen {
+    let mut p = pen;
+    let mut row = head;
+    let mut left = count;
+    while 0 < left {
+        p = draw_row(table, out, p, row);
+        row = next_row(table, row);
+        left -= 1;
+    }
+    put_text(out, p, b"end\n")
+}
