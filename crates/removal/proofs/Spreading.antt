@@ -13,33 +13,18 @@ use Rattle.model.specs.Edition.{edition32}
 use Rattle.model.specs.Cap.{isEmpty, isCNode, firstRow, slots, sameObject, houses}
 use Rattle.model.proofs.Booleans.{either, or-cases, or-left, or-right, and-left, and-right, and-intro}
 use Rattle.model.proofs.Distinct.{count-zero, count-none}
+use Rattle.model.proofs.Kept.Objects.{same-parts, same-houses}
 use Rattle.removal.specs.Marking.{marked, names, stillNames, Nodes, ClosedRows, Counted, Lost, Served, waits, emptied, Waiting, Marks, inNode, Spread}
 
 -- ---- two capabilities that name one CNode
 
-same-kind : (c d : Cap) → sameObject c d ≡ true → c .kind ≡ d .kind
-unfolding sameObject
-same-kind c d s = eqb-true (c .kind) (d .kind) (and-left _ _ (and-left _ _ s))
-
-same-address : (c d : Cap) → sameObject c d ≡ true → c .address .0 ≡ d .address .0
-unfolding sameObject
-same-address c d s = eqb-true (c .address .0) (d .address .0) (and-right (eqb (c .kind) (d .kind)) _ (and-left _ _ s))
-
-same-size : (c d : Cap) → sameObject c d ≡ true → c .size ≡ d .size
-unfolding sameObject
-same-size c d s = eqb-true (c .size) (d .size) (and-right (eqb (c .kind) (d .kind) && eqb (c .address .0) (d .address .0)) _ s)
-
 same-node : (c d : Cap) → sameObject c d ≡ true → isCNode c ≡ true → isCNode d ≡ true
 unfolding isCNode
-same-node c d s t = rw (same-kind c d s) at t
+same-node c d s t = rw (same-parts c d s .kinds) at t
 
 same-first : (c d : Cap) → sameObject c d ≡ true → firstRow edition32 c ≡ firstRow edition32 d
 unfolding firstRow
-same-first c d s = ap (λ a. a / 2 ^ 4) (same-address c d s)
-
-same-houses : (c d : Cap) (k : ℕ) → sameObject c d ≡ true → houses edition32 d k ≡ true → houses edition32 c k ≡ true
-unfolding houses isCNode firstRow slots
-same-houses c d k s h = rw (same-kind c d s, same-address c d s, same-size c d s) h
+same-first c d s = ap (λ a. a / 2 ^ 4) (same-parts c d s .addresses)
 
 houses-below : (c : Cap) (k : ℕ) → houses edition32 c k ≡ true → k < firstRow edition32 c + slots c
 unfolding houses
@@ -115,7 +100,7 @@ module _ (n : ℕ) (cap : ℕ → Cap) (nodes : Nodes n cap) where
           either (eqb i taken)
           (λ t. let p : firstRow edition32 (cap node) ≡ firstRow edition32 (cap c) = ap (λ j. firstRow edition32 (cap j)) (sym (ap (λ j. getD work′ j 0) (eqb-true i taken t) ∙ m .kept taken b)) ∙ e in
           let s = nodes .alike node c (lost .inTable) (h .inTable) (lost .node) (h .node) p in
-          emptied (λ k bk hk o. m .marks k ∙ or-right (marked mark k) _ (and-intro (same-houses (cap node) (cap c) k s hk) (rw o))))
+          emptied (λ k bk hk o. m .marks k ∙ or-right (marked mark k) _ (and-intro (same-houses (same-parts (cap node) (cap c) s) edition32 k ∙ hk) (rw o))))
           (λ f. let ne = eqb-false i taken f in waits i (omega arith) u e)
 
   -- ---- none waits any more
