@@ -48,10 +48,10 @@ unfolding asked
 asked-invokes caps caller message k e =
     passes-at (λ j. invokes (caps j) (operationOf (getD message 0 0)) ≡ true)
     (twin-seq (twin-refuse _ refl) (λ _ _.
-      twin-bind (twin-known refl) (λ j _.
-        twin-seq (twin-refuse _ refl) (λ _ _.
-          twin-seq (twin-refuse _ refl) (λ _ right.
-            twin-seq (twin-refuse _ refl) (λ _ _. twin-pass refl (not-false _ right)))))) .holds)
+    twin-bind (twin-known refl) (λ j _.
+    twin-seq (twin-refuse _ refl) (λ _ _.
+    twin-seq (twin-refuse _ refl) (λ _ right.
+    twin-seq (twin-refuse _ refl) (λ _ _. twin-pass refl (not-false _ right)))))) .holds)
     e
 
 module _ (t : Tables) (caller : ℕ) (message : List ℕ) where

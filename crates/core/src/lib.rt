@@ -38,12 +38,7 @@ pub fn boot(table: &mut [u32], control: &mut [u32; 4], m: u32, r: u32) -> Answer
 }
 
 // Any tables and any message get an answer.
-pub fn request(
-    table: &mut [u32],
-    control: &mut [u32; 4],
-    caller: u32,
-    message: &[u32],
-) -> Answer
+pub fn request(table: &mut [u32], control: &mut [u32; 4], caller: u32, message: &[u32]) -> Answer
     ensures { λ r. ⌜ record { answer = r; tables = record { table = now (table .exit); control = now (control .exit) } } ≡ spec.request edition32 (record { table = now (table .entry); control = now (control .entry) }) caller (now (message .entry)) ⌝ }
 {
     if !rules::check(table, control) {

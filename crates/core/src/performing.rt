@@ -177,17 +177,38 @@ pub fn perform(
     match operation {
         Operation::Copy => {
             let rights = word_at(message, 7);
-            copying(table, control, caller, message, service, Change::Masked { rights })
+            copying(
+                table,
+                control,
+                caller,
+                message,
+                service,
+                Change::Masked { rights },
+            )
         }
         Operation::Mint => {
             let rights = word_at(message, 7);
             let datum = word_at(message, 8);
-            copying(table, control, caller, message, service, Change::Minted { rights, datum })
+            copying(
+                table,
+                control,
+                caller,
+                message,
+                service,
+                Change::Minted { rights, datum },
+            )
         }
         Operation::Move => moving(table, control, caller, message, service, Change::Kept),
         Operation::Mutate => {
             let datum = word_at(message, 7);
-            moving(table, control, caller, message, service, Change::Mutated { datum })
+            moving(
+                table,
+                control,
+                caller,
+                message,
+                service,
+                Change::Mutated { datum },
+            )
         }
         Operation::Delete => deleting(table, control, message, service),
         Operation::Revoke => revoking(table, control, message, service),

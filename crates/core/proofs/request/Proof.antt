@@ -40,10 +40,10 @@ enum-known-found-2 : tie.Need-enum-known-found-2
 enum-known-found-2 c = search needs
 
 perform-requires : tie.Need-perform-requires
-perform-requires c κs =
-    ( record { formed = formed (tables (c .before .before .before .before .before)); inTable = c .before .before .before .before .before .asked .ensures .inside _ (c .before .before .before .found2 .given .1) }
-    , asked-invokes _ _ _ _ (sym (c .before .before .before .before .before .asked .ensures .is) ∙ ap ofFound (c .before .before .before .found2 .given .1))
-    )
+perform-requires c κs = (
+  record { formed = formed (tables (c .before .before .before .before .before)); inTable = c .before .before .before .before .before .asked .ensures .inside _ (c .before .before .before .found2 .given .1) },
+  asked-invokes _ _ _ _ (sym (c .before .before .before .before .before .asked .ensures .is) ∙ ap ofFound (c .before .before .before .found2 .given .1)),
+)
 
 same-length-2 : tie.Need-same-length-2
 same-length-2 c = search needs

@@ -43,14 +43,16 @@ word-at-requires-2 : tie.Need-word-at-requires-2
 word-at-requires-2 c κs = search needs
 
 rotate-requires : tie.Need-rotate-requires
-rotate-requires c κs =
-    ( start (root c) .pre .0 .formed
-    , ( place-reached _ (start (root c) .pre .0 .formed) _ _ _ _ _ (c .before .before .before .before .before .before .before .before .place .ensures)
-      , ( place-reached _ (start (root c) .pre .0 .formed) _ _ _ _ _ (c .before .before .before .before .before .before .place2 .ensures)
-        , place-reached _ (start (root c) .pre .0 .formed) _ _ _ _ _ (c .before .before .before .before .place3 .ensures)
-        )
-      )
-    )
+rotate-requires c κs = (
+  start (root c) .pre .0 .formed,
+  (
+    place-reached _ (start (root c) .pre .0 .formed) _ _ _ _ _ (c .before .before .before .before .before .before .before .before .place .ensures),
+    (
+      place-reached _ (start (root c) .pre .0 .formed) _ _ _ _ _ (c .before .before .before .before .before .before .place2 .ensures),
+      place-reached _ (start (root c) .pre .0 .formed) _ _ _ _ _ (c .before .before .before .before .place3 .ensures),
+    ),
+  ),
+)
 
 same-length : tie.Need-same-length
 same-length c = search needs
@@ -67,7 +69,7 @@ returns-2 c =
     let b = c .before .before .before in
     c .before .before .rotate .ensures
     ∙ turn-found _ (start (root b) .pre .0 .formed) _ _ _ _ _ _ _ _ _ _ (sym (named (root b) .row-named .ensures .is) ∙ ap ofFound (root b .before .found2 .given .1)) (b .before .before .before .before .before .before .before .before .place .ensures)
-      (b .before .before .before .before .before .before .place2 .ensures) (b .before .before .before .before .place3 .ensures) (b .before .before .before .word-at .ensures) (b .before .before .word-at2 .ensures)
+    (b .before .before .before .before .before .before .place2 .ensures) (b .before .before .before .before .place3 .ensures) (b .before .before .before .word-at .ensures) (b .before .before .word-at2 .ensures)
 
 pub rotating-from-spec : {M : Type 1} → statement M
 rotating-from-spec =
