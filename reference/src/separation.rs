@@ -88,6 +88,13 @@ fn tenant_of(from: u32, free: u32, x: u32, size: u32) -> Vec<Vec<u32>> {
     ]
 }
 
+/// The host's requests that make an Endpoint from the `from`-th row and copy it into slot 2 of each of these CNodes, so
+/// that estates share rows only because they name one object.
+fn given_to(nodes: &[(u32, u32)], from: u32, free: u32) -> Vec<Vec<u32>> {
+    let copies = nodes.iter().map(|&(node, x)| vec![1, node, 2, x, 0, free, 32, 7]);
+    std::iter::once(vec![8, from, 2, 0, 0, 0, 0, free, 1]).chain(copies).collect()
+}
+
 /// Tables after a boot, some tenants made by the host, and some requests of any callers.
 fn tables(generator: &mut Generator<impl Write>) -> io::Result<Option<State>> {
     let m = generator.random.weighted(&[(30, 10), (40, 11), (30, 12)]);
@@ -95,11 +102,19 @@ fn tables(generator: &mut Generator<impl Write>) -> io::Result<Option<State>> {
     generator.write(&format!("boot {} {}", m, r))?;
     let largest = m - r - 4;
     let tenants = 2 + generator.random.below(2) as u32;
+    let mut nodes = Vec::new();
     for tenant in 0..tenants {
         let x = 1 + generator.random.below(3) as u32;
         let size = m - 3 - generator.random.below(2) as u32;
         let from = if generator.random.chance(60) { largest } else { (largest - 1).max(1) };
-        for message in tenant_of(from, largest + 1 + 3 * tenant, x, size) {
+        let free = largest + 1 + 3 * tenant;
+        for message in tenant_of(from, free, x, size) {
+            generator.write(&format!("ask 0 {}", spaced(&message)))?;
+        }
+        nodes.push((free + 1, x));
+    }
+    if generator.random.chance(40) {
+        for message in given_to(&nodes, largest, largest + 1 + 3 * tenants) {
             generator.write(&format!("ask 0 {}", spaced(&message)))?;
         }
     }

@@ -16,7 +16,7 @@ use Rattle.model.specs.Rules.{wellFormed}
 use Rattle.model.specs.Tenants.{Merge, Sent, by, estateIn, left, none, right, sends, tablesAfter, toldOn}
 use Rattle.model.proofs.Members.{All, Has, all-from, all-has, has-member, member-has}
 use Rattle.model.proofs.Kept.Figures.{Sane, sane32}
-use Rattle.model.proofs.Separation.OnTables.{separation, tables-in-turn, told-alone}
+use Rattle.model.proofs.Separation.OnTables.{caps-alone, separation, tables-in-turn, told-alone}
 use Rattle.model.proofs.Separation.Two.{differ}
 use Rattle.model.proofs.Words.Caps.{caps-read}
 use Rattle.model.proofs.Words.WellFormed.{Roomy, good-read, roomy32}
@@ -95,6 +95,7 @@ module _ {E : Edition} (law : Roomy E) (sane : Sane E) where
       let callers = all-from (λ z. Has (z .caller) roots) zs (λ z i. member-has (z .caller) roots (all-has (λ z. member (z .caller) roots) ours i)) in
       record {
         told = λ a i. told-alone law sane t wf roots cnodes aparts zs callers a (member-has a roots i);
+        held = λ a i k m. caps-alone law sane t wf roots cnodes aparts zs callers a (member-has a roots i) k (member-has k (estateIn E t a) m);
         tables = λ order. tables-in-turn law sane t wf roots cnodes aparts zs callers order;
       }
 

@@ -28,9 +28,11 @@ Separation E =
 
 -- ---- any number of tenants
 
--- Each tenant has the answers that it has when the others send nothing, and the words end as in any order of one tenant after the other.
+-- Each tenant has the answers that it has when the others send nothing, and so has each row of its estate the capability; and the words end
+-- as in any order of one tenant after the other.
 pub record AllUndisturbed (E : Edition) (t : Tables) (roots : List ℕ) (zs : List (Sent (List ℕ))) : Type 0 where
   pub told : (a : ℕ) → member a roots ≡ true → toldOn E a t zs ≡ toldOn E a t (by a zs)
+  pub held : (a : ℕ) → member a roots ≡ true → (k : ℕ) → member k (estateIn E t a) ≡ true → capOf (tablesAfter E t zs .table) k ≡ capOf (tablesAfter E t (by a zs) .table) k
   pub tables : (order : List ℕ) → tablesAfter E t zs ≡ tablesAfter E t (inTurn order zs)
 
 -- For all well-formed tables, all lists of rows that hold CNode capabilities and whose estates share no row, and all requests of theirs.
