@@ -61,9 +61,9 @@ const SPACED_LINES: [&str; 6] =
     ["  show", "\tshow\t", "show \r", "ask  0\t5   0 00000000000000000006 32 ", " tree", "estate 000"];
 
 /// A run of the generator: what it has written so far led to these tables.
-struct Generator<'a, W: Write> {
-    random: Random,
-    console: Console,
+pub(crate) struct Generator<'a, W: Write> {
+    pub(crate) random: Random,
+    pub(crate) console: Console,
     episodes: u32,
     filling: bool,
     out: &'a mut W,
@@ -71,8 +71,7 @@ struct Generator<'a, W: Write> {
 
 /// Writes console lines with `count` requests.
 pub fn generate(seed: u64, count: u64, out: &mut impl Write) -> io::Result<()> {
-    let mut generator =
-        Generator { random: Random(seed), console: Console::default(), episodes: 0, filling: false, out };
+    let mut generator = Generator::new(seed, out);
     generator.write("# before any boot")?;
     generator.write("show")?;
     generator.write("ask 0 5 0 1 32")?;
@@ -101,7 +100,7 @@ fn slots_below(state: &State, at: Path) -> Vec<Path> {
 }
 
 /// The row holds a CNode.
-fn is_cnode(state: &State, row: Row) -> bool {
+pub(crate) fn is_cnode(state: &State, row: Row) -> bool {
     is_kind(state, row, Kind::CNode)
 }
 
@@ -110,9 +109,16 @@ fn is_kind(state: &State, row: Row, kind: Kind) -> bool {
     state.caps.get(&row).map_or(false, |cap| cap.kind() == kind)
 }
 
+impl<'a, W: Write> Generator<'a, W> {
+    /// A generator before its first line.
+    pub(crate) fn new(seed: u64, out: &'a mut W) -> Self {
+        Generator { random: Random(seed), console: Console::default(), episodes: 0, filling: false, out }
+    }
+}
+
 impl<W: Write> Generator<'_, W> {
     /// Writes a line and does what it says.
-    fn write(&mut self, line: &str) -> io::Result<()> {
+    pub(crate) fn write(&mut self, line: &str) -> io::Result<()> {
         writeln!(self.out, "{}", line)?;
         self.console.line(line.as_bytes(), &mut io::sink())
     }
@@ -224,7 +230,7 @@ impl<W: Write> Generator<'_, W> {
     }
 
     /// A request, and now and then the tables after it.
-    fn request(&mut self, state: &State) -> io::Result<()> {
+    pub(crate) fn request(&mut self, state: &State) -> io::Result<()> {
         let line = self.ask(state);
         let before = self.console.tables.clone();
         self.write(&line)?;
@@ -391,21 +397,33 @@ impl<W: Write> Generator<'_, W> {
         }
     }
 
-    /// A line with a request.
-    fn ask(&mut self, state: &State) -> String {
-        let (caller, roots) = self.caller(state);
+    /// A message that means something to one caller.
+    pub(crate) fn message_of(&mut self, state: &State, caller: Row) -> Vec<u32> {
+        let mut roots = self.reachable(state, caller);
+        roots.retain(|path| path.depth == 32);
+        self.message(state, &roots)
+    }
+
+    /// A message of a caller whose lookups at depth 32 find these slots.
+    fn message(&mut self, state: &State, roots: &[Path]) -> Vec<u32> {
         let removals = if self.filling { 2 } else { 8 };
         let transfers = [(14, 1), (16, 2), (12, 3), (10, 4), (10, 7)];
         let operation = match self.random.weighted(&[(62, 0), (removals + 1, 5), (removals, 6), (30, 8)]) {
             0 => self.random.weighted(&transfers),
             other => other,
         };
-        let mut message = match operation {
-            8 => self.retype(state, &roots),
-            7 => self.rotate(state, &roots),
-            5 | 6 => self.removal(state, &roots, operation),
-            _ => self.transfer(state, &roots, operation),
-        };
+        match operation {
+            8 => self.retype(state, roots),
+            7 => self.rotate(state, roots),
+            5 | 6 => self.removal(state, roots, operation),
+            _ => self.transfer(state, roots, operation),
+        }
+    }
+
+    /// A line with a request.
+    fn ask(&mut self, state: &State) -> String {
+        let (caller, roots) = self.caller(state);
+        let mut message = self.message(state, &roots);
         let mut caller = caller.0;
         match self.random.below(100) {
             0..=1 => {

@@ -17,4 +17,5 @@ pub mod random;
 pub mod removal;
 pub mod request;
 pub mod rules;
+pub mod separation;
 pub mod tables;

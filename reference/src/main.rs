@@ -4,8 +4,11 @@
 //! - `--cases`: the twelve cases of the paper, one line each, then `N passed, M failed`; status 1 if one failed.
 //! - `--generate SEED COUNT`: console lines with COUNT requests.
 //! - `--coverage`: reads console lines, counts what they meet; status 1 if something that must be met was not.
+//! - `--separation SEED COUNT`: COUNT pairs of tenants whose estates share no row, and as many whose estates share one;
+//!   then `N passed, M failed`; status 1 if one failed.
+//! - `--separation-lines SEED COUNT`: console lines of the runs of `--separation`.
 
-use reference::{cases, console, coverage, generate};
+use reference::{cases, console, coverage, generate, separation};
 use std::io::{self, BufRead, Write};
 use std::process::exit;
 
@@ -62,6 +65,11 @@ fn run(arguments: &[&str], out: &mut impl Write) -> Option<io::Result<bool>> {
             let (seed, count) = (seed.parse().ok()?, count.parse().ok()?);
             Some(generate::generate(seed, count, out).map(|()| true))
         }
+        ["--separation", seed, count] => Some(separation::run(seed.parse().ok()?, count.parse().ok()?, out)),
+        ["--separation-lines", seed, count] => {
+            let (seed, count) = (seed.parse().ok()?, count.parse().ok()?);
+            Some(separation::lines(seed, count, out).map(|()| true))
+        }
         _ => None,
     }
 }
@@ -77,7 +85,9 @@ fn main() {
         (Some(Ok(true)), Ok(())) => {}
         (Some(Ok(false)), Ok(())) => exit(1),
         (None, _) => {
-            eprintln!("usage: reference [--cases | --generate SEED COUNT | --coverage]");
+            eprintln!(
+                "usage: reference [--cases | --generate SEED COUNT | --coverage | --separation[-lines] SEED COUNT]"
+            );
             exit(2)
         }
         (Some(Err(error)), _) | (_, Err(error)) => {

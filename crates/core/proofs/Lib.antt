@@ -2,5 +2,6 @@ mod CommonOrder
 mod Carried
 mod Performed
 mod Gone
+mod Requested
 mod BootRows
 mod BootAnswers

@@ -3,14 +3,14 @@ use Prim.Native.Nat.{ℕ, _+_, _*_, _≤_}
 use mathlib.Core.Path.{_≡_}
 use mathlib.Core.Bool.{true, false}
 use mathlib.Core.List.{List}
-use lib.ListN.{length}
+use lib.ListN.{getD, length}
 use Rattle.model.specs.declared.Place.{Place}
 use Rattle.model.specs.Edition.{edition32}
 use Rattle.model.specs.Tree.{Forest, capAt}
 use Rattle.model.specs.Check.{Check, _>>=_}
 use Rattle.model.specs.Tables.{Tables}
 use Rattle.model.specs.Rules.{wellFormed}
-use Rattle.model.specs.Operations.{Done}
+use Rattle.model.specs.Operations.{Done, rotate}
 use Rattle.model.specs.Request.{rowNamed, place}
 
 -- tables that keep the rules, and a service in a row of the table
@@ -23,3 +23,9 @@ unfoldable pub twoPlaces : (operation : Forest → (dest source : Place) → Che
 twoPlaces operation f caller message k = do
   root ← rowNamed edition32 f caller message 4
   operation f (place (capAt f k) message 2 false) (place (capAt f root) message 5 true)
+
+-- Rotate, once its pivot's root is found
+unfoldable pub turnedFrom : Forest → (caller : ℕ) → (message : List ℕ) → (k pivot : ℕ) → Check Done
+turnedFrom f caller message k pivot = do
+  source ← rowNamed edition32 f caller message 9
+  rotate edition32 f (place (capAt f k) message 2 false) (place (capAt f pivot) message 6 false) (place (capAt f source) message 10 true) (getD message 4 0) (getD message 8 0)

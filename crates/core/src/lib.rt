@@ -4,6 +4,7 @@ mod booting;
 mod message;
 mod performing;
 
+use lookup::Found;
 use model::Answer;
 use model::Failure;
 ghost use mathlib.Core.Path.{_≡_};
@@ -34,6 +35,25 @@ pub fn boot(table: &mut [u32], control: &mut [u32; 4], m: u32, r: u32) -> Answer
     control[2] = 0;
     control[3] = m - r - 3;
     Answer::Success { count: 0 }
+}
+
+// Any tables and any message get an answer.
+pub fn request(
+    table: &mut [u32],
+    control: &mut [u32; 4],
+    caller: u32,
+    message: &[u32],
+) -> Answer
+    ensures { λ r. ⌜ record { answer = r; tables = record { table = now (table .exit); control = now (control .exit) } } ≡ spec.request edition32 (record { table = now (table .entry); control = now (control .entry) }) caller (now (message .entry)) ⌝ }
+{
+    if !rules::check(table, control) {
+        return Answer::BadTables;
+    }
+    let found = asking::asked(table, caller, message);
+    match found {
+        Found::Refused(answer) => answer,
+        Found::At(service) => performing::perform(table, control, caller, message, service),
+    }
 }
 
 // A lookup failure's four words.

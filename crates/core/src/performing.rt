@@ -1,12 +1,17 @@
 // What each operation is asked: its roots in message order, then what it does.
 use crate::asking;
+use crate::message::operation_of;
+use crate::message::word_at;
 use lookup::Found;
 use lookup::find;
 use model::Answer;
 use model::Change;
+use model::Operation;
 use model::Row;
 ghost use mathlib.Core.Path.{_≡_};
 ghost use mathlib.Core.Bool.{true, false};
+ghost use Prim.Native.Nat.{_+_, _*_, _≤_};
+ghost use lib.ListN.{getD, length};
 ghost use Rattle.model.specs.Edition.{edition32};
 ghost use Rattle.model.specs.Cap as cap;
 ghost use Rattle.model.specs.Tables as tables;
@@ -110,5 +115,84 @@ pub fn retyping(
             let asked = asking::retyping(table, root, message);
             retype::retype(table, control, service, asked)
         }
+    }
+}
+
+// Rotate, once its pivot's root is found: the source's root, then what is done.
+fn rotating_from(
+    table: &mut [u32],
+    control: &mut [u32; 4],
+    caller: u32,
+    message: &[u32],
+    service: Row,
+    pivot_root: Row,
+) -> Answer
+    requires { ⌜ serving.Served (record { table = now table; control = now control }) (service .0) ⌝ ∗ ⌜ «pivot_root» .0 * 8 + 8 ≤ length (now table) ⌝ }
+    ensures { λ r. ⌜ record { answer = r; tables = record { table = now (table .exit); control = now (control .exit) } } ≡ spec.carriedOut edition32 (record { table = now (table .entry); control = now (control .entry) }) (λ f. serving.turnedFrom f caller (now (message .entry)) (service .0) («pivot_root» .0)) ⌝ }
+{
+    let found = asking::row_named(table, caller, message, 9);
+    match found {
+        Found::Refused(answer) => answer,
+        Found::At(root) => {
+            let dest = asking::place(table, service, message, 2, false);
+            let pivot = asking::place(table, pivot_root, message, 6, false);
+            let source = asking::place(table, root, message, 10, true);
+            let datum = word_at(message, 4);
+            let pivot_datum = word_at(message, 8);
+            transfer::rotate(table, control, dest, pivot, source, datum, pivot_datum)
+        }
+    }
+}
+
+// Rotate: its pivot's root, then the rest.
+pub fn rotating(
+    table: &mut [u32],
+    control: &mut [u32; 4],
+    caller: u32,
+    message: &[u32],
+    service: Row,
+) -> Answer
+    requires { ⌜ serving.Served (record { table = now table; control = now control }) (service .0) ⌝ }
+    ensures { λ r. ⌜ record { answer = r; tables = record { table = now (table .exit); control = now (control .exit) } } ≡ spec.carriedOut edition32 (record { table = now (table .entry); control = now (control .entry) }) (λ f. spec.perform edition32 f caller (now (message .entry)) (service .0) operations.Rotate) ⌝ }
+{
+    let found = asking::row_named(table, caller, message, 5);
+    match found {
+        Found::Refused(answer) => answer,
+        Found::At(root) => rotating_from(table, control, caller, message, service, root),
+    }
+}
+
+// The operation that a message asks of its service.
+pub fn perform(
+    table: &mut [u32],
+    control: &mut [u32; 4],
+    caller: u32,
+    message: &[u32],
+    service: Row,
+) -> Answer
+    requires { ⌜ serving.Served (record { table = now table; control = now control }) (service .0) ⌝ ∗ ⌜ spec.invokes (tables.capOf (now table) (service .0)) (spec.operationOf (getD (now message) 0 0)) ≡ true ⌝ }
+    ensures { λ r. ⌜ record { answer = r; tables = record { table = now (table .exit); control = now (control .exit) } } ≡ spec.carriedOut edition32 (record { table = now (table .entry); control = now (control .entry) }) (λ f. spec.perform edition32 f caller (now (message .entry)) (service .0) (spec.operationOf (getD (now (message .entry)) 0 0))) ⌝ }
+{
+    let operation = operation_of(word_at(message, 0));
+    match operation {
+        Operation::Copy => {
+            let rights = word_at(message, 7);
+            copying(table, control, caller, message, service, Change::Masked { rights })
+        }
+        Operation::Mint => {
+            let rights = word_at(message, 7);
+            let datum = word_at(message, 8);
+            copying(table, control, caller, message, service, Change::Minted { rights, datum })
+        }
+        Operation::Move => moving(table, control, caller, message, service, Change::Kept),
+        Operation::Mutate => {
+            let datum = word_at(message, 7);
+            moving(table, control, caller, message, service, Change::Mutated { datum })
+        }
+        Operation::Delete => deleting(table, control, message, service),
+        Operation::Revoke => revoking(table, control, message, service),
+        Operation::Rotate => rotating(table, control, caller, message, service),
+        Operation::Retype => retyping(table, control, caller, message, service),
+        Operation::Unknown => Answer::IllegalOperation,
     }
 }

@@ -1,6 +1,6 @@
 -- A walk along the rows below a row: what is to come of them, and what comes after them.
 use Prim.Native.Nat.{ℕ, _+_, _-_, _≤_, _<_}
-use mathlib.Core.Path.{_≡_, sym, ap, _∙_, subst}
+use mathlib.Core.Path.{_≡_, refl, sym, ap, _∙_, subst}
 use mathlib.Core.Bool.{Bool, true, false, not, _||_}
 use mathlib.Core.List.{List, [], _∷_, _++_, map, map-map}
 use native.Mathlib.Omega.{arith}
@@ -23,7 +23,8 @@ use Rattle.model.proofs.Kept.Rules.{entry-at, vacant-none}
 use Rattle.model.proofs.Words.Rows.{rowAt, rowsIn, Holds, Written}
 use Rattle.model.proofs.Words.Listing.{Low}
 use Rattle.model.proofs.Words.WellFormed.{Formed, formed, formed-distinct, formed-written, roomy32, listIn}
-use Rattle.model.proofs.Words.Linking.{next-is, depth-is}
+use Rattle.model.proofs.Words.Linking.{middle-below, next-is, depth-is}
+use Rattle.model.proofs.Words.Runs.{raisedRun}
 use Rattle.model.proofs.Words.Around.{At, depthOf, at-has as around-at}
 use Rattle.model.proofs.Words.Edited.{listedOf, listedBefore, listing-at, listedUnder, listedPast, after-is}
 use Rattle.model.proofs.Words.Descendants.{under-deep, past-low, descendants-are}
@@ -32,6 +33,7 @@ use Rattle.removal.proofs.Marks.{or-false}
 use Rattle.removal.proofs.Slots.{or-or}
 use Rattle.removal.proofs.Tables.{rowsOfTables, rows-small, list-read}
 use Rattle.removal.proofs.Nodes.{sound, row-count}
+use Rattle.removal.proofs.Raising.{Raised}
 
 -- us is to come, ps comes after the rows below; S are the rows that are passed, and `all` the rows below
 pub record Descent (n : ℕ) (t : List ℕ) (d : ℕ) (all : List ℕ) (next left : ℕ) (S : ℕ → Bool) (us ps : List Listed) : Type 0 where
@@ -140,10 +142,11 @@ module _ (t : Tables) (well : wellFormed edition32 t ≡ true) (k : ℕ) where
       absurd (vacant-none (sound t well) k e (at-has (u .at)) rx))
       (λ n. n)
 
-  module _ (there : isEmpty (capAt f k) ≡ false) where
-    at : At k f
-    at = let (e, m, r, q) = entry-at (sound t well) k there in around-at k f (subst (λ j. Has j (rowsOf f)) r (map-has (λ e. e .row) m))
+  -- the place of an occupied row in the tree
+  pub place : isEmpty (capAt f k) ≡ false → At k f
+  place there = let (e, m, r, q) = entry-at (sound t well) k there in around-at k f (subst (λ j. Has j (rowsOf f)) r (map-has (λ e. e .row) m))
 
+  module _ (at : At k f) where
     abbrev pre : List Listed
     pre = listedBefore at
 
@@ -197,3 +200,35 @@ module _ (t : Tables) (well : wellFormed edition32 t ≡ true) (k : ℕ) where
             seen = λ j. ap (member j) rows-below;
           },
         )
+
+    distinct-after : (pre : List Listed) (x : Listed) (post : List Listed) → Distinct (rowsIn (pre ++ x ∷ post)) → Distinct (rowsIn post)
+    distinct-after [] x post d = d .1
+    distinct-after (q ∷ pre) x post d = distinct-after pre x post (d .1)
+
+    -- so begins the walk that puts the rows below one up
+    pub raised-start : Raised (rowCount (t .table)) (t .table) (word (t .table) k 7) (raisedRun (t .table) (listedUnder at)) (word (t .table) k 5) (getD (t .control) 3 0)
+    raised-start =
+        rw (row-count t well, depth) (
+          us,
+          ps,
+          record {
+            room = omega (arith, rows-small t well);
+            long = form .tableLong;
+            before = listedOf at .entry .row;
+            holds = holds-after (rowAt (t .table)) 4294967295 pre (listedOf at) (us ++ ps) (written .holds);
+            distinct = distinct-after pre (listedOf at) (us ++ ps) distinct;
+            below = all-after (λ j. j < rowsOfTables t) pre (listedOf at) (us ++ ps) below-all;
+            deep = under-deep k f at;
+            low = past-low k f at;
+            nextIs = after;
+            fuel = omega (arith, longer pre (listedOf at) us ps, ap length listed, form .chained .long);
+            up = refl;
+          },
+        )
+
+    -- there is a row, so the count is not 0
+    pub some-row : 0 < getD (t .control) 3 0
+    some-row = omega (arith, length-append pre (listedOf at ∷ (us ++ ps)), ap length listed, form .chained .long)
+
+    pub row-below-n : k < rowCount (t .table)
+    row-below-n = rw (row-count t well) (subst (λ j. j < rowsOfTables t) (at .row) (middle-below (rowsOfTables t) pre (listedOf at) (us ++ ps) below-all))

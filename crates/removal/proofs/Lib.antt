@@ -9,4 +9,6 @@ pub mod Tallying
 pub mod Nodes
 pub mod Start
 pub mod Removed
+pub mod Raising
 pub mod Descent
+pub mod Cutting

@@ -1,16 +1,16 @@
 -- What well-formed tables say of their CNodes, and that a set of rows is closed by the table's capabilities just if it is by the tree's entries.
 use Prim.Native.Nat.{ℕ, _+_, _-_, _/_, _≤_, _<_}
-use mathlib.Core.Path.{_≡_, sym, _∙_, subst}
+use mathlib.Core.Path.{_≡_, sym, _∙_, subst, ap}
 use mathlib.Core.Bool.{Bool, true, false}
 use native.Mathlib.Omega.{arith}
 use lib.Dec.{leb}
 use lib.ListN.{getD}
-use borrow.Author.Tests.{eqb-true, leb-true, leb-false}
+use borrow.Author.Tests.{eqb-true, leb-true, leb-false, eq-eqb, ne-eqb}
 use Rattle.model.specs.declared.Cap.{Cap}
 use Rattle.model.specs.Edition.{edition32}
 use Rattle.model.specs.Cap.{isEmpty, isUntyped, isCNode, firstRow, slots, limit, sameObject, houses}
 use Rattle.model.specs.Tree.{Forest, entries, capAt}
-use Rattle.model.specs.Tables.{Tables, rows, capOf, read}
+use Rattle.model.specs.Tables.{Tables, rows, word, capOf, read}
 use Rattle.model.specs.Rules.{wellFormed}
 use Rattle.model.proofs.Booleans.{either, and-left}
 use Rattle.model.proofs.State.{Sound}
@@ -103,3 +103,16 @@ module _ (t : Tables) (well : wellFormed edition32 t ≡ true) where
         inside = λ k b c. inside sound k c;
         alike = λ j k bj bk tj tk e. alike sound j k tj tk e;
       })
+
+  -- a row's first word says what it holds
+  pub empty-at : (k w : ℕ) → w ≡ word (t .table) k 0 → w ≡ 0 → isEmpty (capAt (read edition32 t .forest) k) ≡ true
+  unfolding isEmpty capOf
+  empty-at k w e z = ap (λ g. isEmpty (g k)) (sym caps) ∙ eq-eqb (word (t .table) k 0) 0 (sym e ∙ z)
+
+  pub there-at : (k w : ℕ) → w ≡ word (t .table) k 0 → (w ≡ 0 → ⊥) → isEmpty (capAt (read edition32 t .forest) k) ≡ false
+  unfolding isEmpty capOf
+  there-at k w e z = ap (λ g. isEmpty (g k)) (sym caps) ∙ ne-eqb (word (t .table) k 0) 0 (λ q. z (e ∙ q))
+
+  pub plain-at : (k w : ℕ) → w ≡ word (t .table) k 0 → (w ≡ 5 → ⊥) → isCNode (capAt (read edition32 t .forest) k) ≡ false
+  unfolding isCNode capOf
+  plain-at k w e z = ap (λ g. isCNode (g k)) (sym caps) ∙ ne-eqb (word (t .table) k 0) 5 (λ q. z (e ∙ q))

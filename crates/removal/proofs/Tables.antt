@@ -45,6 +45,13 @@ rows-few m h =
     let (low, high) = within-parts 10 m 16 h in
     pow-mono {i = m - 4} {j = 12} (omega arith)
 
+long : (xs : List Listed) → length (map (λ x. x .entry) xs) ≡ length xs
+long [] = refl
+long (x ∷ xs) = ap suc (long xs)
+
+pub entries-long : (g : Forest) → length (entries g) ≡ length (listing 0 g)
+entries-long g = ap length (sym (entries-listing g 0)) ∙ long (listing 0 g)
+
 module _ (t : Tables) (well : wellFormed edition32 t ≡ true) where
   form : Formed edition32 t (listIn edition32 t)
   form = formed edition32 roomy32 t well
@@ -105,13 +112,6 @@ module _ (t : Tables) (well : wellFormed edition32 t ≡ true) where
     four (p ∷ q ∷ r ∷ []) a b e = absurd (omega arith)
     four (p ∷ q ∷ r ∷ s ∷ []) a b e = refl
     four (p ∷ q ∷ r ∷ s ∷ x ∷ xs) a b e = absurd (omega arith)
-
-    long : (xs : List Listed) → length (map (λ x. x .entry) xs) ≡ length xs
-    long [] = refl
-    long (x ∷ xs) = ap suc (long xs)
-
-    entries-long : (g : Forest) → length (entries g) ≡ length (listing 0 g)
-    entries-long g = ap length (sym (entries-listing g 0)) ∙ long (listing 0 g)
 
     tables-are : (dead : List ℕ) → whole mark start t ≡ listing 0 (edit (without dead) f)
         → record { table = u; control = set (set (t .control) 2 head) 3 kept } ≡ write edition32 (record { m = read edition32 t .m; r = read edition32 t .r; forest = edit (without dead) f })

@@ -1,7 +1,7 @@
 -- What a removal leaves of the tables.
 use Prim.Native.Nat.{ℕ, _+_}
 use mathlib.Core.Path.{_≡_}
-use mathlib.Core.Bool.{Bool, cond}
+use mathlib.Core.Bool.{Bool, cond, not}
 use mathlib.Core.List.{List, [], _∷_}
 use lib.ListN.{length}
 use Rattle.model.specs.Lists.{member}
@@ -11,6 +11,9 @@ use Rattle.model.specs.Tree.{edit, without, entries, capAt}
 use Rattle.model.specs.Tables.{Tables, read, write}
 use Rattle.model.specs.Operations.{remove, descendants}
 use Rattle.model.specs.Request.{Changed, applied}
+use Rattle.model.proofs.Words.Around.{At}
+use Rattle.model.proofs.Words.Edited.{listedUnder}
+use Rattle.model.proofs.Words.Runs.{raisedRun}
 use Rattle.removal.specs.Marking.{marked}
 
 -- the marked rows are gone from the tables, `gone` of them
@@ -40,3 +43,16 @@ isOffspring t k j = member j (offspring t k)
 pub record Removes (t t′ : Tables) (start : List ℕ) (gone : ℕ) : Type 0 where
   pub count : gone ≡ afterRemoval t start .count
   pub tables : t′ ≡ write edition32 (afterRemoval t start .state)
+
+-- ---- one row by itself
+
+unfoldable pub occupied : Tables → (k : ℕ) → Bool
+occupied t k = not (isEmpty (capAt (read edition32 t .forest) k))
+
+-- the table with all that is below a row one up
+pub record Raises (t : Tables) (k : ℕ) (table : List ℕ) : Type 0 where
+  pub is : (p : At k (read edition32 t .forest)) → table ≡ raisedRun (t .table) (listedUnder p)
+
+-- the tables without row k
+abbrev pub withoutRow : Tables → (k : ℕ) → Tables
+withoutRow t k = write edition32 (record { m = read edition32 t .m; r = read edition32 t .r; forest = edit (without (k ∷ [])) (read edition32 t .forest) })

@@ -141,7 +141,8 @@ fn thin(t: &mut [u32], control: &mut [u32; 4], mark: &[u32; 4096]) -> u32
     let mut kept: u32 = 0;
     while left > 0 {
         let next = table::word(t, Row(row), 5);
-        let depth = table::word(t, Row(row), 7) as usize;
+        let deep = table::word(t, Row(row), 7);
+        let depth = deep as usize;
         let level = low[depth];
         if mark[row as usize] != 0 {
             table::stores::unlink(t, Row(row), last, next);
@@ -196,12 +197,70 @@ fn mark_descendants(
     ready
 }
 
+// What is below a row goes one up: the rows after it that are deeper.
+fn raise_descendants(t: &mut [u32], control: &[u32; 4], row: u32)
+    requires { ⌜ wellFormed edition32 (record { table = now t; control = now control }) ≡ true ⌝ }
+    requires { ⌜ removing.occupied (record { table = now t; control = now control }) row ≡ true ⌝ }
+    ensures { λ _. ⌜ removing.Raises (record { table = now (t .entry); control = now (control .entry) }) row (now (t .exit)) ⌝ }
+{
+    let depth = table::word(t, Row(row), 7);
+    let mut next = table::word(t, Row(row), 5);
+    let mut rows = control[3];
+    while rows > 0 {
+        if next == NONE {
+            return;
+        }
+        let deep = table::word(t, Row(next), 7);
+        if deep <= depth {
+            return;
+        }
+        let after = table::word(t, Row(next), 5);
+        table::stores::put(t, Row(next), 7, deep - 1);
+        next = after;
+        rows -= 1;
+    }
+}
+
+// The head without a row that stood between two others, either of which may be none.
+fn head_without(last: u32, next: u32, head: u32) -> u32
+    ensures { λ r. ⌜ r ≡ cond (eqb last 4294967295) next head ⌝ }
+{
+    if last == NONE {
+        return next;
+    }
+    head
+}
+
+// One row goes, and what was below it hangs from its nearest ancestor.
+fn cut(t: &mut [u32], control: &mut [u32; 4], row: u32)
+    requires { ⌜ wellFormed edition32 (record { table = now t; control = now control }) ≡ true ⌝ }
+    requires { ⌜ removing.occupied (record { table = now t; control = now control }) row ≡ true ⌝ }
+    ensures { λ _. ⌜ record { table = now (t .exit); control = now (control .exit) } ≡ removing.withoutRow (record { table = now (t .entry); control = now (control .entry) }) row ⌝ }
+{
+    let last = table::word(t, Row(row), 6);
+    let next = table::word(t, Row(row), 5);
+    let head = head_without(last, next, control[2]);
+    let count = control[3] - 1;
+    raise_descendants(t, control, row);
+    table::stores::unlink(t, Row(row), last, next);
+    control[2] = head;
+    control[3] = count;
+}
+
 // A row goes, with all that follows; how many went.
 pub fn delete(t: &mut [u32], control: &mut [u32; 4], row: Row) -> u32
     requires { ⌜ wellFormed edition32 (record { table = now t; control = now control }) ≡ true ⌝ }
     requires { ⌜ row .0 * 8 + 8 ≤ length (now t) ⌝ }
     ensures { λ r. ⌜ removing.Removes (record { table = now (t .entry); control = now (control .entry) }) (record { table = now (t .exit); control = now (control .exit) }) (removing.target (record { table = now (t .entry); control = now (control .entry) }) (row .0)) r ⌝ }
 {
+    let kind = table::word(t, row, 0);
+    if kind == 0 {
+        return 0;
+    }
+    if kind != 5 {
+        cut(t, control, row.0);
+        return 1;
+    }
     let mut mark = [0u32; 4096];
     let mut counts = [0u32; 4096];
     let mut work = [0u32; 4096];

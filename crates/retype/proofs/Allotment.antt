@@ -1,21 +1,21 @@
 -- The memory of an Untyped in well-formed tables, allotted: what comes of the request, and that the stores which carry it out are possible.
-use Prim.Native.Nat.{ℕ, zero, suc, _+_, _-_, _*_, _/_, _^_, _≤_, _<_}
-use mathlib.Core.Path.{_≡_, refl, sym, ap, _∙_, subst}
-use mathlib.Core.Bool.{Bool, true, false, cond, not, _||_}
+use Prim.Native.Nat.{ℕ, _+_, _-_, _*_, _/_, _^_, _≤_}
+use mathlib.Core.Path.{_≡_, sym, ap, _∙_, subst}
+use mathlib.Core.Bool.{Bool, true, false, cond}
 use native.Mathlib.Omega.{arith}
-use lib.ListN.{getD, length}
+use lib.ListN.{getD}
 use borrow.Author.Tests.{ltb-false}
 use Rattle.model.specs.Edition.{Edition, edition32}
 use Rattle.model.specs.declared.Answer.{Answer}
 use Rattle.model.specs.declared.Answer.the-variants.{Success, NotEnoughMemory}
 use Rattle.model.specs.declared.Cap.{Cap}
 use Rattle.model.specs.declared.Retyping.{Retyping}
-use Rattle.model.specs.Cap.{isEmpty, isUntyped, bytes, exponent}
-use Rattle.model.specs.Check.{Check, passed, refused, refuse, _>>=_, _>>_}
+use Rattle.model.specs.Cap.{isEmpty, bytes, exponent}
+use Rattle.model.specs.Check.{passed, refused, refuse, _>>=_}
 use Rattle.model.specs.Tables.{Tables, rows, word, capOf, read, write}
 use Rattle.model.specs.Tree.{Forest, hasChildren, capAt}
-use Rattle.model.specs.Operations.{Done, anyTaken, start, allot, allotted, alignUp}
-use Rattle.model.specs.Request.{Outcome, applied, carriedOut}
+use Rattle.model.specs.Operations.{anyTaken, start, allot, allotted, alignUp}
+use Rattle.model.specs.Request.{applied, carriedOut}
 use Rattle.model.proofs.Words.WellFormed.{roomy32, write-read}
 use Rattle.model.proofs.Words.Caps.{caps-read}
 use Rattle.model.proofs.Words.Descendants.{children-test}

@@ -1,11 +1,10 @@
 -- The bytes of an Untyped: whether they are enough for a window, and how far its objects reach.
-use Prim.Native.Nat.{ℕ, zero, suc, _+_, _-_, _*_, _/_, _^_, _≤_, _<_}
-use mathlib.Core.Path.{_≡_, sym, _∙_}
-use native.Mathlib.Nat.{le-div-iff-mul-le, div-mul-le-self, le-trans}
+use Prim.Native.Nat.{ℕ, zero, suc, _-_, _*_, _/_, _^_, _≤_, _<_}
+use mathlib.Core.Path.{_≡_}
+use native.Mathlib.Nat.{le-div-iff-mul-le}
 use native.Mathlib.Omega.{arith}
-use lib.Dec.{ltb}
 use lib.Pow.{pow-pos, pow-mono}
-use borrow.Author.Tests.{lt-ltb, le-ltb, ltb-false}
+use borrow.Author.Tests.{lt-ltb, le-ltb}
 use Rattle.model.specs.Edition.{edition32}
 use Rattle.model.specs.declared.Answer.the-variants.{NotEnoughMemory}
 use Rattle.model.specs.declared.Cap.{Cap}
@@ -13,15 +12,9 @@ use Rattle.model.specs.declared.Retyping.{Retyping}
 use Rattle.model.specs.Cap.{bytes, exponent}
 use Rattle.model.specs.Check.{passed, refused}
 use Rattle.model.specs.Operations.{alignUp}
-use Rattle.retype.specs.Allotting.{memoryFor, Bounded}
-use Rattle.retype.specs.Laid.{unit}
+use Rattle.model.proofs.Retype.Alignment.{align-most}
+use Rattle.retype.specs.Allotting.{memoryFor}
 use Rattle.retype.proofs.Tests.{stops, passes}
-use Rattle.retype.proofs.Passed.{through}
-
--- rounding up adds less than the unit
-pub align-most : (n e : ℕ) → alignUp n e ≤ n + 2 ^ e
-unfolding alignUp
-align-most n e = omega (arith, div-mul-le-self (n + (2 ^ e - 1)) (2 ^ e))
 
 -- objects that the bytes are enough for take no more than these
 pub objects-most : (bytes e window : ℕ) → window ≤ bytes / 2 ^ e → window * 2 ^ e ≤ bytes

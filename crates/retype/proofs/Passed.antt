@@ -1,10 +1,10 @@
 -- What is known where Retype's tests have passed.
-use Prim.Native.Nat.{ℕ, _+_, _-_, _*_, _≤_, _<_}
-use mathlib.Core.Path.{_≡_, refl, sym, ap, _∙_, subst}
-use mathlib.Core.Bool.{Bool, true, false, not, _||_}
+use Prim.Native.Nat.{ℕ, _+_, _-_, _*_, _≤_}
+use mathlib.Core.Path.{_≡_, refl, sym}
+use mathlib.Core.Bool.{Bool, true, false}
 use mathlib.Core.List.{List}
 use native.Mathlib.Omega.{arith}
-use lib.Dec.{leb, ltb, eqb}
+use lib.Dec.{eqb}
 use lib.ListN.{length}
 use borrow.Author.Tests.{leb-false, ltb-false, eqb-false, not-false}
 use Rattle.model.specs.Edition.{edition32}
@@ -19,7 +19,7 @@ use Rattle.model.specs.Lookup.{lookup}
 use Rattle.model.specs.Tables.{capOf}
 use Rattle.model.proofs.Booleans.{or-none}
 use Rattle.lookup.specs.Ready.{Ready, Usable}
-use Rattle.retype.specs.Window.{Known, sized, nodeBy, windowIn, takenBy, vacantIn, firstSlot}
+use Rattle.retype.specs.Window.{nodeBy, windowIn}
 
 never : {A : Type 0} (a : Answer) (x : A) → refused a ≡ passed x → ⊥
 never a x e = let z : _≡_ {A = ℕ} 0 1 = cc in omega arith

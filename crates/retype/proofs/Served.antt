@@ -1,16 +1,14 @@
 -- A request on well-formed tables: what its tests have shown once they passed, and what comes of it.
-use Prim.Native.Nat.{ℕ, _+_, _*_, _≤_}
-use mathlib.Core.Path.{_≡_, refl, sym, ap, _∙_, subst}
-use mathlib.Core.Bool.{Bool, true, false}
-use mathlib.Core.List.{List}
-use native.Mathlib.Omega.{arith}
+use Prim.Native.Nat.{ℕ}
+use mathlib.Core.Path.{_≡_, sym, ap, _∙_, subst}
+use mathlib.Core.Bool.{true, false}
 use borrow.Author.Tests.{ltb-false}
 use Rattle.model.specs.Edition.{edition32}
 use Rattle.model.specs.declared.Answer.{Answer}
 use Rattle.model.specs.declared.Cap.{Cap}
 use Rattle.model.specs.declared.Retyping.{Retyping}
 use Rattle.model.specs.Cap.{isCNode}
-use Rattle.model.specs.Check.{Check, passed, refused, refuse, _>>=_, _>>_}
+use Rattle.model.specs.Check.{passed, refused, _>>=_}
 use Rattle.model.specs.Tables.{Tables, capOf, read}
 use Rattle.model.specs.Tree.{Forest, capAt}
 use Rattle.model.specs.Operations.{start, allot, retype}
@@ -21,7 +19,7 @@ use Rattle.model.proofs.Transfer.Outcome.{comes-refused, comes-same}
 use Rattle.lookup.specs.Ready.{Ready, Usable}
 use Rattle.lookup.proofs.WellFormed.{ready}
 use Rattle.retype.specs.Allotting.{Retypable, Vacant, allotting}
-use Rattle.retype.specs.Window.{Known, sized, nodeBy, windowIn, takenBy, vacantIn, firstSlot}
+use Rattle.retype.specs.Window.{Known, sized, windowIn, takenBy, vacantIn, firstSlot}
 use Rattle.retype.proofs.Passed.{through, bound, then-passed, same, window-placed, window-inside, node-usable}
 use Rattle.retype.proofs.Whole.{retype-by}
 

@@ -1,13 +1,13 @@
 -- The tests put together: the window in a node with all its slots empty, and the first slot of a request.
 use Prim.Native.Nat.{ℕ}
-use mathlib.Core.Path.{_≡_, sym, ap, _∙_}
-use mathlib.Core.Bool.{Bool, true, false}
+use mathlib.Core.Path.{_≡_, sym}
+use mathlib.Core.Bool.{true, false}
 use Rattle.model.specs.Edition.{Edition}
 use Rattle.model.specs.declared.Answer.{Answer}
 use Rattle.model.specs.declared.Answer.the-variants.{DeleteFirst}
 use Rattle.model.specs.declared.Cap.{Cap}
 use Rattle.model.specs.declared.Retyping.{Retyping}
-use Rattle.model.specs.Check.{Check, passed, refused, refuse, _>>=_, _>>_}
+use Rattle.model.specs.Check.{passed, refused, refuse, _>>=_, _>>_}
 use Rattle.retype.specs.Window.{sized, nodeBy, windowIn, takenBy, vacantIn, firstSlot}
 
 module _ (E : Edition) (caps : ℕ → Cap) (q : Retyping) where

@@ -4,7 +4,6 @@ use mathlib.Core.Path.{_≡_, refl, sym, ap, _∙_}
 use mathlib.Core.Bool.{Bool, true, false}
 use mathlib.Core.List.{List}
 use native.Mathlib.Omega.{arith}
-use lib.Dec.{eqb}
 use borrow.Author.Tests.{eq-eqb, ne-eqb}
 use Rattle.model.specs.Edition.{Edition}
 use Rattle.model.specs.declared.Answer.{Answer}
@@ -17,10 +16,12 @@ use Rattle.model.specs.Operations.{slotOf}
 use Rattle.model.specs.Tables.{capOf, word}
 use Rattle.retype.specs.Window.{nodeBy, takenBy}
 
+-- a test that holds refuses
 pub stops : {A : Type 0} (a : Answer) (b : Bool) (rest : Check A) → b ≡ true → refused a ≡ (refuse a b >> rest)
 unfolding refuse _>>_
 stops a b rest h = rw h
 
+-- a test that does not hold lets the rest go on
 pub passes : {A : Type 0} (a : Answer) (b : Bool) (rest : Check A) → b ≡ false → rest ≡ (refuse a b >> rest)
 unfolding refuse _>>_
 passes a b rest h = rw h
@@ -49,6 +50,7 @@ passed-bind a f = refl
 -- ---- the node
 
 module _ (E : Edition) (caps : ℕ → Cap) (p : Place) where
+  -- the row that the place names
   abbrev slot : Check ℕ
   slot = slotOf E (p .source) (lookup E caps (p .root) (p .index) (p .depth))
 

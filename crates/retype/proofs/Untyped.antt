@@ -16,9 +16,9 @@ use Rattle.model.proofs.Words.WellFormed.{roomy32, formed}
 use Rattle.model.proofs.Kept.Allowed.{limit-of, mark-of, untyped-size, untyped-filled}
 use Rattle.model.proofs.Transfer.Held.{counted-most, depth-below}
 
-exponent-small : (m : ℕ) (c : Cap) → m ≤ 16 → isUntyped c ≡ true → capAllowed edition32 m c ≡ true → exponent edition32 (c .kind - 1) (c .size) ≤ 15
+untyped-exponent : (m : ℕ) (c : Cap) → m ≤ 16 → isUntyped c ≡ true → capAllowed edition32 m c ≡ true → exponent edition32 (c .kind - 1) (c .size) ≤ 15
 unfolding exponent isUntyped
-exponent-small m c low untyped allowed = rw (eqb-true (c .kind) 1 untyped) (omega (arith, untyped-size edition32 m c allowed untyped .1))
+untyped-exponent m c low untyped allowed = rw (eqb-true (c .kind) 1 untyped) (omega (arith, untyped-size edition32 m c allowed untyped .1))
 
 place-small : (m : ℕ) (c : Cap) → m ≤ 16 → capAllowed edition32 m c ≡ true → c .address .0 ≤ 65536
 unfolding limit
@@ -46,7 +46,7 @@ small t e k untyped inside =
     let row : rowAllowed edition32 m (t .table) k ≡ true = w .eachRow k (omega (arith, w .tableLong)) in
     let allowed : capAllowed edition32 m c ≡ true = rw (rowAllowed, filled) at row in
     record {
-      size = exponent-small m c range untyped allowed;
+      size = untyped-exponent m c range untyped allowed;
       place = place-small m c range allowed;
       mark = mark-of edition32 m c allowed untyped;
       depth = omega (arith, depth-below edition32 roomy32 t e k filled, counted-most edition32 roomy32 t e);

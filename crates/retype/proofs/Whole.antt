@@ -1,13 +1,12 @@
 -- Retype is its tests up to the first slot, then the allotment.
 use Prim.Native.Nat.{ℕ, zero, suc, _+_}
-use mathlib.Core.Path.{_≡_, refl, sym, ap, _∙_, fun-ext}
+use mathlib.Core.Path.{_≡_, refl, ap}
 use mathlib.Core.Bool.{Bool, not, _||_}
 use Rattle.model.specs.Edition.{Edition}
-use Rattle.model.specs.declared.Cap.{Cap}
 use Rattle.model.specs.declared.Place.{Place}
 use Rattle.model.specs.declared.Retyping.{Retyping}
 use Rattle.model.specs.Cap.{isEmpty}
-use Rattle.model.specs.Check.{Check, passed, refused, refuse, _>>=_, _>>_}
+use Rattle.model.specs.Check.{_>>=_}
 use Rattle.model.specs.Tree.{Forest, capAt}
 use Rattle.model.specs.Operations.{find, node, anyTaken, start, allot, retype}
 use Rattle.retype.specs.Window.{sized, nodeBy, windowIn, takenBy, vacantIn, firstSlot}

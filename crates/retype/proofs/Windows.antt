@@ -1,7 +1,7 @@
 -- The window in a node: each test on offset and window, and the first slot where all pass.
-use Prim.Native.Nat.{ℕ, _+_, _-_, _/_, _^_, _≤_, _<_}
-use mathlib.Core.Path.{_≡_, sym, ap, _∙_}
-use mathlib.Core.Bool.{Bool, true, false, not, _||_}
+use Prim.Native.Nat.{ℕ, _+_, _-_, _/_, _≤_, _<_}
+use mathlib.Core.Path.{_≡_, _∙_}
+use mathlib.Core.Bool.{true, false, not, _||_}
 use native.Mathlib.Omega.{arith}
 use lib.Dec.{leb, ltb, eqb}
 use borrow.Author.Tests.{eq-eqb, ne-eqb, le-leb, lt-leb, lt-ltb, le-ltb}
@@ -11,7 +11,7 @@ use Rattle.model.specs.declared.Cap.{Cap}
 use Rattle.model.specs.declared.Failure.the-variants.{Missing}
 use Rattle.model.specs.declared.Retyping.{Retyping}
 use Rattle.model.specs.Cap.{isCNode, firstRow, slots}
-use Rattle.model.specs.Check.{passed, refused, refuse, _>>_}
+use Rattle.model.specs.Check.{passed, refused}
 use Rattle.model.proofs.Kept.Powers.{exponent-le}
 use Rattle.retype.specs.Window.{windowIn}
 use Rattle.retype.proofs.Tests.{stops, passes}
@@ -24,10 +24,9 @@ pub no-node : (E : Edition) (n : Cap) (q : Retyping) → (n .kind ≡ 5 → ⊥)
 unfolding windowIn isCNode
 no-node E n q h = stops _ _ _ rw (ne-eqb (n .kind) 5 h)
 
-module _ (n : Cap) (q : Retyping) (room : isCNode n ≡ true → firstRow edition32 n + slots n ≤ 4096) (node : n .kind ≡ 5) where
-  pub radix-small : n .size ≤ 12
-  unfolding slots
-  radix-small = exponent-le 12 (n .size) (omega (arith, room (node-kind n node)))
+pub radix-small : (n : Cap) → (isCNode n ≡ true → firstRow edition32 n + slots n ≤ 4096) → n .kind ≡ 5 → n .size ≤ 12
+unfolding slots
+radix-small n room node = exponent-le 12 (n .size) (omega (arith, room (node-kind n node)))
 
 -- `w` is the number of slots
 module _ (n : Cap) (q : Retyping) (w : ℕ) (is : w ≡ slots n) (node : n .kind ≡ 5) where

@@ -9,7 +9,7 @@ use Rattle.model.specs.declared.Place.{Place}
 use Rattle.model.specs.declared.Retyping.{Retyping}
 use Rattle.model.specs.Edition.{Edition}
 use Rattle.model.specs.Cap.{isEmpty, isCNode, firstRow, slots}
-use Rattle.model.specs.Check.{Check, passed, refused, _>>=_, _>>_, refuse}
+use Rattle.model.specs.Check.{Check, passed, _>>=_, _>>_, refuse}
 use Rattle.model.specs.Lookup.{lookup}
 use Rattle.model.specs.Operations.{slotOf, sizeBarred}
 

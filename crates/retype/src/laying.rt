@@ -20,18 +20,19 @@ pub fn link_new(
     depth: u32,
     q: Retyping,
     first: Row,
-    address: u32,
+    address: Address,
 )
-    requires { ⌜ Room (now t) (after .0) q (first .0) address ⌝ }
-    ensures { λ _. ⌜ now (t .exit) ≡ linkedRun (now (t .entry)) (after .0) next (newRows q depth (first .0) address (q .window)) ⌝ }
+    requires { ⌜ Room (now t) (after .0) q (first .0) (address .0) ⌝ }
+    ensures { λ _. ⌜ now (t .exit) ≡ linkedRun (now (t .entry)) (after .0) next (newRows q depth (first .0) (address .0) (q .window)) ⌝ }
 {
     let unit = pow2(exponent(q.object, q.size) as u32);
     let mut last = after.0;
     let mut k = first.0;
-    let mut at = address as u64;
+    let mut at = address.0 as u64;
     let mut left = q.window;
     while 0 < left {
-        let c = new_cap(q.object, q.size, Address(at as u32));
+        let byte = at as u32;
+        let c = new_cap(q.object, q.size, Address(byte));
         link(t, Row(last), next, Row(k), c, depth);
         last = k;
         k += 1;
@@ -45,12 +46,12 @@ pub fn lay_out(t: &mut [u32], control: &mut [u32; 4], row: Row, q: Retyping, fir
     requires { ⌜ Layable (record { table = now t; control = now control }) (row .0) (first .0) at q ⌝ }
     ensures { λ _. ⌜ record { table = now (t .exit); control = now (control .exit) } ≡ laidOut (record { table = now (t .entry); control = now (control .entry) }) (row .0) (first .0) at q ⌝ }
 {
-    let address = word(t, row, 1) + at;
+    let base = word(t, row, 1) + at;
     let next = word(t, row, 5);
     let depth = word(t, row, 7) + 1;
     let e = exponent(q.object, q.size) as u32;
     let end = at as u64 + ((q.window as u64) << e);
     put(t, row, 3, end as u32);
-    link_new(t, row, next, depth, q, first, address);
+    link_new(t, row, next, depth, q, first, Address(base));
     control[3] = q.window + control[3];
 }

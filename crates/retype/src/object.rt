@@ -58,8 +58,9 @@ pub fn new_cap(object: u32, size: u32, address: Address) -> Cap
     if object != 4 {
         shown = exponent(object, size) as u32;
     }
+    let kind = 1 + object;
     Cap {
-        kind: 1 + object,
+        kind,
         address,
         size: shown,
         third: 0,

@@ -1,15 +1,13 @@
 -- An allowed capability names whole cells, and so does all of memory; a CNode of cells as large as slots houses the rows of its cells.
-use Prim.Native.Nat.{ℕ, _+_, _-_, _*_, _/_, _%_, _^_, _≤_, _<_}
-use mathlib.Core.Path.{_≡_, refl, sym, ap, ap₂, _∙_}
-use mathlib.Core.Bool.{Bool, true, false, cond, _||_}
+use Prim.Native.Nat.{ℕ, _-_, _*_, _/_, _%_, _^_, _≤_, _<_}
+use mathlib.Core.Path.{_≡_, refl, sym, ap, _∙_}
+use mathlib.Core.Bool.{true, false}
 use native.Mathlib.Nat.{mod-self, zero-mod}
 use native.Mathlib.Omega.{arith}
-use lib.Dec.{leb, eqb}
-use lib.ListN.{getD}
+use lib.Dec.{eqb}
 use lib.Pow.{pow-pos, shl-shr}
-use borrow.Author.Tests.{eqb-true, eqb-false, leb-true, ne-eqb}
+use borrow.Author.Tests.{eqb-true, eqb-false, leb-true}
 use Rattle.model.specs.declared.Cap.{Cap}
-use Rattle.model.specs.Lists.{allTrue}
 use Rattle.model.specs.Edition.{Edition}
 use Rattle.model.specs.Cap.{isEmpty, isUntyped, isCNode, bytes, exponent, firstRow, slots, houses}
 use Rattle.model.specs.Tables.{rows}
@@ -18,7 +16,7 @@ use Rattle.model.proofs.Booleans.{either, part}
 use Rattle.model.proofs.Kept.Figures.{Sane, bytes-cnode, bytes-untyped}
 use Rattle.model.proofs.Kept.Powers.{split, exact}
 use Rattle.model.proofs.Kept.Objects.{Mark}
-use Rattle.model.proofs.Kept.Allowed.{aligned-of, mark-of, untyped-size, Houses, houses-parts, parts-houses}
+use Rattle.model.proofs.Kept.Allowed.{aligned-of, mark-of, untyped-size, houses-parts, parts-houses}
 use Rattle.rules.specs.Owners.{firstCell, cells, memory}
 use Rattle.rules.proofs.Cells.{Covers, Celled}
 
@@ -70,9 +68,6 @@ module _ {E : Edition} (sane : Sane E) where
 
     pub memory-covers : (m k : ℕ) → 4 ≤ m → Covers E (memory m) k → k < rows E m
     memory-covers m k h v = omega (arith, v .high, memory-first m, memory-cells m h)
-
-    pub rows-covered : (m k : ℕ) → 4 ≤ m → k < rows E m → Covers E (memory m) k
-    rows-covered m k h l = record { low = omega (arith, memory-first m); high = omega (arith, memory-cells m h) }
 
     module _ (c : Cap) (node : isCNode c ≡ true) where
       as-slots : cells E c ≡ slots c

@@ -1,10 +1,9 @@
 -- An entry step by step: what is known of the row that it stands in, and each way out.
 use Prim.Native.Nat.{ℕ, _+_, _-_, _/_, _^_, _≤_, _<_}
-use mathlib.Core.Path.{_≡_, refl, sym, ap, _∙_, subst}
-use mathlib.Core.Bool.{Bool, true, false, cond}
+use mathlib.Core.Path.{_≡_, ap}
+use mathlib.Core.Bool.{Bool, true, false}
 use mathlib.Core.List.{List}
 use native.Mathlib.Omega.{arith}
-use lib.Dec.{eqb}
 use lib.ListN.{getD}
 use lib.Pow.{pow-mono}
 use borrow.Author.Tests.{eq-eqb, ne-eqb}
@@ -18,8 +17,8 @@ use Rattle.model.proofs.Kept.Allowed.{limit-of}
 use Rattle.model.proofs.Kept.Figures.{sane32}
 use Rattle.model.proofs.Kept.Powers.{exponent-le}
 use Rattle.model.proofs.Words.Chain.{rows-at, row-taken}
-use Rattle.rules.specs.Owners.{firstCell, cells, ownedBy, took, kept, broken, capUp, beside, enter}
-use Rattle.rules.specs.Checked.{Scanned, Occupied}
+use Rattle.rules.specs.Owners.{firstCell, cells, ownedBy, took, kept, capUp, beside, enter}
+use Rattle.rules.specs.Checked.{Occupied}
 use Rattle.rules.proofs.Cells.{Celled}
 use Rattle.rules.proofs.Celling.{celled-of}
 

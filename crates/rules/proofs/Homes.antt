@@ -1,18 +1,17 @@
 -- Each occupied row lies in a CNode exactly if the owner of its own cell at the end is one: a CNode that houses the row is found there,
 -- and the owner covers what it owns.
-use Prim.Native.Nat.{ℕ, zero, suc, _+_, _≤_, _<_}
+use Prim.Native.Nat.{ℕ, zero, suc, _≤_, _<_}
 use mathlib.Core.Path.{_≡_, refl, sym, ap, _∙_, subst}
 use mathlib.Core.Bool.{Bool, true, false, _&&_, _||_}
-use mathlib.Core.List.{List, [], _∷_}
-use mathlib.Core.Logic.{_⊎_, inl, inr, ⊎-elim}
+use mathlib.Core.List.{List}
+use mathlib.Core.Logic.{⊎-elim}
 use native.Mathlib.Omega.{arith}
 use lib.Dec.{ltb}
 use lib.ListN.{getD}
 use borrow.Author.Tests.{ltb-true, lt-ltb}
-use Rattle.model.specs.declared.Cap.{Cap}
 use Rattle.model.specs.Lists.{any, all}
 use Rattle.model.specs.Edition.{Edition}
-use Rattle.model.specs.Cap.{isEmpty, isUntyped, isCNode, houses}
+use Rattle.model.specs.Cap.{isEmpty, isCNode, houses}
 use Rattle.model.specs.Tree.{Entry, Forest, entries}
 use Rattle.model.specs.Tables.{rows, capOf}
 use Rattle.model.specs.Rules.{housed}
@@ -20,10 +19,9 @@ use Rattle.model.proofs.Booleans.{either, bool-ext, and-left, and-right, and-in
 use Rattle.model.proofs.Members.{Has, any-some, any-has, all-has, all-of}
 use Rattle.model.proofs.Distinct.{Order, less, same, more, order}
 use Rattle.model.proofs.Kept.Figures.{Sane}
-use Rattle.model.proofs.Kept.Objects.{Same, same-parts}
-use Rattle.model.proofs.Kept.Allowed.{cnode-typed, Houses, houses-parts}
+use Rattle.model.proofs.Kept.Objects.{same-parts}
+use Rattle.model.proofs.Kept.Allowed.{cnode-typed, houses-parts}
 use Rattle.rules.specs.Owners.{homes}
-use Rattle.rules.proofs.Cells.{Covers}
 use Rattle.rules.proofs.Walking.{Found, Made}
 use Rattle.rules.proofs.Celling.{houses-covers, covers-houses}
 

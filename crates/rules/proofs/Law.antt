@@ -1,34 +1,32 @@
 -- What the check of rows against rows computes is the rule on the tree that is read.
-use Prim.Native.Nat.{ℕ, zero, suc, _+_, _-_, _*_, _^_, _≤_, _<_}
+use Prim.Native.Nat.{ℕ, zero, suc, _-_, _≤_, _<_}
 use mathlib.Core.Path.{_≡_, refl, sym, ap, _∙_, subst}
-use mathlib.Core.Bool.{Bool, true, false, cond, not, _&&_, true≢false, false≢true}
-use mathlib.Core.List.{List, [], _∷_, List·Memᴰ·not-nil}
+use mathlib.Core.Bool.{Bool, true, false, not, _&&_}
+use mathlib.Core.List.{List, [], List·Memᴰ·not-nil}
 use native.Mathlib.Omega.{arith}
-use lib.Dec.{eqb}
 use lib.ListN.{getD, length, replicate, length-replicate, getD-replicate}
 use borrow.Author.Tests.{eq-eqb, eqb-true}
 use lib.Pow.{pow-mono}
 use Rattle.model.specs.declared.Cap.{Cap}
-use Rattle.model.specs.Lists.{allTrue, all, count, within}
+use Rattle.model.specs.Lists.{allTrue, all, count}
 use Rattle.model.specs.Edition.{Edition, edition32}
 use Rattle.model.specs.Cap.{isEmpty, isUntyped}
-use Rattle.model.specs.Tree.{Entry, Forest, end, tree, entries, roots}
-use Rattle.model.specs.Tables.{rows, capOf, follow, grown, listing}
+use Rattle.model.specs.Tree.{Forest, end, tree, entries, roots}
+use Rattle.model.specs.Tables.{rows, capOf, follow, grown}
 use Rattle.model.specs.Rules.{mInRange, rowsAllowed, occupied, insideBelow, housed, pairwise, childrenAllowed, familiesAllowed, forestAllowed}
-use Rattle.model.proofs.Booleans.{either, and-left, and-right, and-intro, part, within-parts}
-use Rattle.model.proofs.Members.{Has}
+use Rattle.model.proofs.Booleans.{either, and-intro, within-parts}
 use Rattle.model.proofs.Kept.Figures.{Sane, sane32}
 use Rattle.model.proofs.Kept.Objects.{parts-inside}
 use Rattle.model.proofs.Kept.Allowed.{limit-of}
 use Rattle.model.proofs.Words.Listing.{listing-grown}
 use Rattle.model.proofs.Words.Chain.{Chain, chain}
 use Rattle.model.proofs.Words.WellFormed.{roomy32}
-use Rattle.rules.specs.Owners.{Owners, owners, broken, memory, capUp, rowAbove, walk, judged}
+use Rattle.rules.specs.Owners.{memory, capUp, rowAbove, walk, judged}
 use Rattle.rules.specs.Checked.{Checked}
 use Rattle.rules.proofs.Cells.{Covers, Celled}
 use Rattle.rules.proofs.Outcome.{Outcome, keeps, breaks}
 use Rattle.rules.proofs.Held.{level, Ready, free}
-use Rattle.rules.proofs.Placed.{Here, Placed, treeWalk, family}
+use Rattle.rules.proofs.Placed.{Placed, treeWalk, family}
 use Rattle.rules.proofs.Walking.{Walked, walking}
 use Rattle.rules.proofs.Celling.{celled-memory, memory-covers}
 use Rattle.rules.proofs.Kin.{kin, kin-children, family-is}

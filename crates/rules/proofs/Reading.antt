@@ -1,8 +1,8 @@
 -- The tree that is read from a checked table: its entries stand in the rows, no deeper than there are rows, and all occupied rows are theirs.
 use Prim.Native.Nat.{ℕ, zero, suc, _+_, _≤_, _<_}
 use mathlib.Core.Path.{_≡_, refl, sym, ap, _∙_, subst}
-use mathlib.Core.Bool.{Bool, true, false, not, true≢false}
-use mathlib.Core.List.{List, [], _∷_, _++_, map, List·Memᴰ·head, List·Memᴰ·tail, List·Memᴰ·not-nil}
+use mathlib.Core.Bool.{true, false, not, true≢false}
+use mathlib.Core.List.{List, [], _∷_, _++_, List·Memᴰ·head, List·Memᴰ·tail, List·Memᴰ·not-nil}
 use mathlib.Core.Logic.{_⊎_, inl, inr, ⊎-elim}
 use native.Mathlib.Omega.{arith}
 use lib.Dec.{eqb}
@@ -13,11 +13,10 @@ use Rattle.model.specs.Edition.{Edition}
 use Rattle.model.specs.Cap.{isEmpty}
 use Rattle.model.specs.Tree.{Entry, Forest, end, tree, entries}
 use Rattle.model.specs.Tables.{Listed, rows, word, capOf, follow, grown, listing}
-use Rattle.model.specs.Rules.{rowAllowed, rowsAllowed}
+use Rattle.model.specs.Rules.{rowsAllowed}
 use Rattle.model.proofs.Booleans.{either}
 use Rattle.model.proofs.Members.{All, all-map, Has, has-map, length-map}
 use Rattle.model.proofs.Distinct.{Fresh, Distinct, listed-all}
-use Rattle.model.proofs.State.{rowsOf}
 use Rattle.model.proofs.Kept.Figures.{Sane}
 use Rattle.model.proofs.Kept.Forests.{three}
 use Rattle.model.proofs.Words.Listing.{Steps, listing-grown}

@@ -2,22 +2,21 @@
 use Prim.Native.Nat.{ℕ, zero, suc, _+_, _-_, _^_, _≤_, _<_}
 use mathlib.Core.Path.{_≡_, refl, sym, ap, _∙_}
 use mathlib.Core.Bool.{Bool, true, false, not, _&&_}
-use mathlib.Core.List.{List, [], _∷_}
+use mathlib.Core.List.{List, _∷_}
 use native.Mathlib.Omega.{arith}
-use lib.Dec.{leb, ltb, eqb}
+use lib.Dec.{ltb, eqb}
 use lib.ListN.{getD, set, length, replicate, length-replicate, getD-replicate, List·getD-eq-default}
 use lib.Pow.{pow-pos}
 use lib.Seq.{getD-set-same, getD-set-other, set-out}
 use borrow.Author.Tests.{ne-eqb, eqb-true, eqb-false, ltb-true, ltb-false, leb-true, not-true, eq-eqb}
-use Rattle.model.specs.Lists.{allTrue, count}
+use Rattle.model.specs.Lists.{count}
 use Rattle.model.specs.Edition.{Edition, edition32}
 use Rattle.model.specs.Cap.{isEmpty}
-use Rattle.model.specs.Tables.{Listed, rows, word, capOf, follow}
+use Rattle.model.specs.Tables.{rows, word, capOf, follow}
 use Rattle.model.specs.Rules.{linkAllowed, listed, occupied}
 use Rattle.model.proofs.Booleans.{either, and-left, and-right, part}
-use Rattle.model.proofs.Words.WellFormed.{roomy32}
 use Rattle.rules.specs.Owners.{Owners, broken, owners, kept, goOn, enter, rowAbove, walk, homes, judged}
-use Rattle.rules.specs.Checked.{Scanned, Counted, Checked, Occupied}
+use Rattle.rules.specs.Checked.{Checked}
 use Rattle.rules.proofs.Law.{count-le, rows-most}
 
 pub rowAbove-top : (E : Edition) (above : List ℕ) (d : ℕ) → d ≡ 0 → E .none ≡ rowAbove E above d

@@ -1,17 +1,16 @@
 -- A capability's tests in the order of the code: the first that fails decides.
 use Prim.Native.Nat.{ℕ, _-_, _≤_}
-use mathlib.Core.Path.{_≡_, refl, sym, _∙_}
+use mathlib.Core.Path.{_≡_, refl}
 use mathlib.Core.Bool.{Bool, true, false, _&&_}
-use mathlib.Core.List.{List, [], _∷_}
 use native.Mathlib.Omega.{arith}
 use lib.Dec.{leb}
-use borrow.Author.Tests.{eqb-true}
 use Rattle.model.specs.declared.Cap.{Cap}
 use Rattle.model.specs.Lists.{allTrue, within}
 use Rattle.model.specs.Edition.{edition32}
 use Rattle.model.specs.Cap.{isUntyped}
 use Rattle.model.specs.Rules.{mInRange, sizeAllowed, placeAllowed, thirdAllowed, fourthAllowed, capAllowed}
-use Rattle.model.proofs.Booleans.{and-left, and-right, within-parts}
+use Rattle.rules_row.proofs.ByKind.{sized}
+use Rattle.model.proofs.Booleans.{and-right, within-parts}
 
 five : (a b c d e : Bool) → ((a && b) && (c && (d && e))) ≡ (a && (b && (c && (d && (e && true)))))
 five true true true true true = refl
@@ -22,10 +21,7 @@ five true false c d e = refl
 five false b c d e = refl
 
 module _ (m : ℕ) (c : Cap) where
-  sized : Bool
-  sized = leb (c .kind) 6 && sizeAllowed edition32 m c
-
-  in-order : (sized && (placeAllowed edition32 m c && (thirdAllowed edition32 c && fourthAllowed edition32 c))) ≡ capAllowed edition32 m c
+  in-order : (sized m c && (placeAllowed edition32 m c && (thirdAllowed edition32 c && fourthAllowed edition32 c))) ≡ capAllowed edition32 m c
   unfolding sized capAllowed allTrue
   in-order = five (leb (c .kind) 6) (sizeAllowed edition32 m c) (placeAllowed edition32 m c) (thirdAllowed edition32 c) (fourthAllowed edition32 c)
 

@@ -1,6 +1,6 @@
 -- Rotate is its tests and what turns after them; the words that the code stores are those of the tables after it.
 use Prim.Native.Nat.{ℕ}
-use mathlib.Core.Path.{_≡_, refl, sym, ap, _∙_, subst}
+use mathlib.Core.Path.{_≡_, sym, ap, _∙_, subst}
 use mathlib.Core.Bool.{true}
 use Rattle.model.specs.declared.Answer.{Answer}
 use Rattle.model.specs.declared.Answer.the-variants.{Success}
@@ -21,10 +21,8 @@ use Rattle.model.proofs.Transfer.Outcome.{comes-refused, comes-done}
 use Rattle.model.proofs.Transfer.Turned.{exchangedTables, write-turned, write-exchanged}
 use Rattle.transfer.specs.declared.turns.Rows.{Rows}
 use Rattle.transfer.specs.declared.turns.Turn.{Turn}
-use Rattle.transfer.specs.declared.turns.Located.the-variants.{At}
-use Rattle.transfer.specs.declared.turns.Turning.the-variants.{Go}
 use Rattle.transfer.specs.Lent.{after}
-use Rattle.transfer.specs.Turns.{threeRows, turnCaps, turn, turned, InRows, Locates, Turnable, TurnsFrom, Turns}
+use Rattle.transfer.specs.Turns.{threeRows, turnCaps, turn, turned, InRows, Turnable, Turns}
 use Rattle.transfer.proofs.Bounds.{row-below}
 
 -- ---- the stores
@@ -88,11 +86,6 @@ module _ (t : Tables) (e : wellFormed edition32 t ≡ true) (dest pivot source :
     rotate-goes w found u done = comes-done edition32 t operation (turned w) u (onward ∙ ap (λ (c : Check Turn). c >>= λ x. passed (turned x)) (sym found)) done
 
 -- what the tests showed of a turn
-pub can-turn : (t : Tables) → wellFormed edition32 t ≡ true → (rs : Rows) (c : Check Rows) → Locates (t .table) c (At rs) → (d : Check Turn) (w : Turn) → TurnsFrom (t .table) rs d (Go w) → Turns t w
-can-turn t e rs c located d w turning =
-    let goes = turning .goes w refl in
-    record {
-      formed = e;
-      inside = subst (InRows (t .table)) (sym (goes .0)) (located .inside rs refl);
-      turnable = subst (Turnable (t .table)) (sym (goes .0)) (goes .1);
-    }
+pub can-turn : (t : Tables) → wellFormed edition32 t ≡ true → (rs : Rows) (w : Turn) → InRows (t .table) rs → (w .rows ≡ rs) × Turnable (t .table) rs → Turns t w
+can-turn t e rs w inside goes =
+    record { formed = e; inside = subst (InRows (t .table)) (sym (goes .0)) inside; turnable = subst (Turnable (t .table)) (sym (goes .0)) (goes .1) }

@@ -9,20 +9,20 @@ use caps::full;
 use model::Answer;
 use model::Change;
 use model::Place;
+use shifts::exchange;
+use shifts::shift;
 use table::cap_at;
 use table::has_children;
 use table::stores::link;
 use table::stores::put_cap;
 use table::word;
-use ways::Plan;
-use ways::Way;
-use shifts::exchange;
-use shifts::shift;
-use turns::three_rows;
-use turns::turn_at;
 use turns::Located;
 use turns::Turn;
 use turns::Turning;
+use turns::three_rows;
+use turns::turn_at;
+use ways::Plan;
+use ways::Way;
 use ways::planned;
 ghost use mathlib.Core.Path.{_≡_};
 ghost use mathlib.Core.Bool.{true};
@@ -116,7 +116,15 @@ fn turned(t: &mut [u32], control: &mut [u32; 4], w: Turn)
 }
 
 // Rotate.
-pub fn rotate(t: &mut [u32], control: &mut [u32; 4], dest: Place, pivot: Place, source: Place, datum: u32, pivot_datum: u32) -> Answer
+pub fn rotate(
+    t: &mut [u32],
+    control: &mut [u32; 4],
+    dest: Place,
+    pivot: Place,
+    source: Place,
+    datum: u32,
+    pivot_datum: u32,
+) -> Answer
     requires { ⌜ wellFormed edition32 (lent (now t) (now control)) ≡ true ⌝ ∗ ⌜ Reached (now t) dest ⌝ ∗ ⌜ Reached (now t) pivot ⌝ ∗ ⌜ Reached (now t) source ⌝ }
     ensures { λ r. ⌜ record { answer = r; tables = lent (now (t .exit)) (now (control .exit)) } ≡ carriedOut edition32 (lent (now (t .entry)) (now (control .entry))) (λ f. ops.rotate edition32 f dest pivot source datum «pivot_datum») ⌝ }
 {

@@ -1,8 +1,8 @@
 // The tests of Rotate: three rows that are apart, pivot and source occupied, the data allowed.
-use crate::caps::with_datum;
 use crate::caps::Altered;
-use lookup::find;
+use crate::caps::with_datum;
 use lookup::Found;
+use lookup::find;
 use model::Answer;
 use model::Cap;
 use model::Failure;
@@ -92,7 +92,14 @@ fn turn_caps(rows: Rows, pivot: Cap, source: Cap, datum: u32, pivot_datum: u32) 
 }
 
 // What turns, where it may.
-pub fn turn_at(t: &[u32], rows: Rows, pivot: Place, source: Place, datum: u32, pivot_datum: u32) -> Turning
+pub fn turn_at(
+    t: &[u32],
+    rows: Rows,
+    pivot: Place,
+    source: Place,
+    datum: u32,
+    pivot_datum: u32,
+) -> Turning
     requires { ⌜ spec.InRows (now t) rows ⌝ }
     ensures { λ r. ⌜ spec.TurnsFrom (now (t .entry)) rows (spec.turn edition32 (capOf (now (t .entry))) rows pivot source datum «pivot_datum») r ⌝ }
 {

@@ -43,9 +43,11 @@ graftedTables t k w new n =
 module _ (E : Edition) (law : Roomy E) (t : Tables) (e : wellFormed E t ≡ true) (k : ℕ) (u : Cap) (at : ℕ) (q : Retyping) (first : ℕ)
     (some : isEmpty (capOf (t .table) k) ≡ false) (free : anyTaken (read E t .forest) first (q .window) ≡ false)
     (low : first + q .window ≤ rows E (getD (t .control) 0 0)) where
+  -- the byte after the last new object
   abbrev pub newEnd : ℕ
   newEnd = at + q .window * 2 ^ exponent E (q .object) (q .size)
 
+  -- the window's new capabilities
   abbrev pub newEntries : List Entry
   newEntries = made E (q .object) (q .size) first (u .address .0 + at) (q .window)
 

@@ -1,5 +1,5 @@
 -- What comes of an operation, from the operation's check: a refusal leaves the tables, and otherwise they are those of the edited tree.
-use mathlib.Core.Path.{_≡_, sym}
+use mathlib.Core.Path.{_≡_}
 use Rattle.model.specs.declared.Answer.{Answer}
 use Rattle.model.specs.declared.Answer.the-variants.{Success}
 use Rattle.model.specs.Edition.{Edition}
@@ -7,7 +7,7 @@ use Rattle.model.specs.Tree.{Forest}
 use Rattle.model.specs.Check.{Check, passed, refused, _>>=_}
 use Rattle.model.specs.Tables.{Tables, read, write}
 use Rattle.model.specs.Operations.{Done}
-use Rattle.model.specs.Request.{Outcome, concluded, applied, carriedOut}
+use Rattle.model.specs.Request.{concluded, applied, carriedOut}
 
 module _ (E : Edition) (t : Tables) (operation : Forest → Check Done) where
   pub comes-refused : (a : Answer) → operation (read E t .forest) ≡ refused a → record { answer = a; tables = t } ≡ carriedOut E t operation

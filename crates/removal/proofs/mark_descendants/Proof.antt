@@ -1,21 +1,18 @@
 -- `removal::mark_descendants` meets its contract. The loop's invariant: some of the rows below are marked, and the others are to come. The
 -- measure is how many rows may still come. Assumes nothing.
 use Prim.Native.Nat.{ℕ, _-_, _<_}
-use mathlib.Core.Path.{_≡_, refl, sym, ap, _∙_}
-use mathlib.Core.Bool.{Bool, true, false}
+use mathlib.Core.Path.{_≡_, refl}
+use mathlib.Core.Bool.{Bool, false}
 use native.Mathlib.Omega.{arith}
 use borrow.Author.Needs.{needs}
-use borrow.Author.Tests.{eq-eqb, ne-eqb}
 use denote.Ref.{now}
-use Rattle.model.specs.Cap.{isEmpty}
 use Rattle.model.specs.Edition.{edition32}
-use Rattle.model.specs.Tree.{capAt}
 use Rattle.model.specs.Tables.{Tables, capOf, read}
 use Rattle.model.specs.Operations.{descendants}
 use Rattle.removal.specs.Marking.{rowCount, Marks}
 use Rattle.removal.proofs.Slots.{marks-none, marks-then, marks-as}
-use Rattle.removal.proofs.Nodes.{caps, nodes}
-use Rattle.removal.proofs.Descent.{Descending, descent-as, descent-spent, descent-end, descent-low, descent-row, descent-step, descent-start, none-below}
+use Rattle.removal.proofs.Nodes.{nodes, empty-at, there-at}
+use Rattle.removal.proofs.Descent.{Descending, descent-as, descent-spent, descent-end, descent-low, descent-row, descent-step, descent-start, none-below, place}
 use Rattle.removal.proofs.mark_descendants.Statement.{statement}
 use Rattle.removal.proofs.mark_descendants.Tie as tie
 
@@ -30,15 +27,6 @@ abbrev μ-loop : tie.MeasureT-loop
 abbrev given : tie.Start Inv-loop μ-loop → Tables
 given s = record { table = now (s .args .t); control = now (s .args .control) }
 
--- the row's first word says whether it is empty
-kind-empty : (c : tie.After-word Inv-loop μ-loop) → c .word .result ≡ 0 → isEmpty (capAt (read edition32 (given (c .before .before)) .forest) (c .before .before .args .row)) ≡ true
-unfolding isEmpty capOf
-kind-empty c h = let s = c .before .before in ap (λ f. isEmpty (f (s .args .row))) (sym (caps (given s) (s .pre .0))) ∙ eq-eqb _ 0 (sym (c .word .ensures) ∙ h)
-
-kind-there : (c : tie.After-word Inv-loop μ-loop) → (c .word .result ≡ 0 → ⊥) → isEmpty (capAt (read edition32 (given (c .before .before)) .forest) (c .before .before .args .row)) ≡ false
-unfolding isEmpty capOf
-kind-there c h = let s = c .before .before in ap (λ f. isEmpty (f (s .args .row))) (sym (caps (given s) (s .pre .0))) ∙ ne-eqb _ 0 (λ e. h (c .word .ensures ∙ e))
-
 abbrev Turn : Type 0
 Turn = tie.In-loop Inv-loop μ-loop
 
@@ -52,7 +40,7 @@ word-requires : tie.Need-word-requires Inv-loop μ-loop
 word-requires c κs = (omega arith, omega (arith, c .before .pre .1 .1))
 
 returns : tie.Need-returns Inv-loop μ-loop
-returns c = let s = c .before .before .before in marks-none _ _ _ _ _ _ _ (none-below (given s) (s .pre .0) (s .args .row) (kind-empty (c .before) (c .if1 .taken))) (s .pre .1 .0)
+returns c = let s = c .before .before .before in marks-none _ _ _ _ _ _ _ (none-below (given s) (s .pre .0) (s .args .row) (empty-at (given s) (s .pre .0) (s .args .row) _ (c .before .word .ensures) (c .if1 .taken))) (s .pre .1 .0)
 
 word-requires-2 : tie.Need-word-requires-2 Inv-loop μ-loop
 word-requires-2 c κs = (omega arith, omega (arith, c .before .before .before .pre .1 .1))
@@ -69,7 +57,7 @@ loop-holds c =
     let s = e .before .before .before in (
       λ j. false,
       marks-none _ _ _ _ _ _ _ (λ j. refl) (s .pre .1 .0),
-      descent-as _ _ _ _ _ _ _ (c .before .before .word2 .ensures) (c .before .word3 .ensures) (descent-start (given s) (s .pre .0) (s .args .row) (kind-there (e .before) (e .if1 .left))),
+      descent-as _ _ _ _ _ _ _ (c .before .before .word2 .ensures) (c .before .word3 .ensures) (descent-start (given s) (s .pre .0) (s .args .row) (place (given s) (s .pre .0) (s .args .row) (there-at (given s) (s .pre .0) (s .args .row) _ (e .before .word .ensures) (e .if1 .left)))),
     )
 
 returns-2 : tie.Need-returns-2 Inv-loop μ-loop

@@ -7,6 +7,7 @@ use Rattle.retype.proofs.Allotment.{bounded, layable, allot-refused, al
 use Rattle.retype.proofs.allot.Statement.{statement}
 use Rattle.retype.proofs.allot.Tie as tie
 
+-- the function's entry
 abbrev entry : tie.After-start → tie.Start
 entry s = s .before .before .before .before .before
 

@@ -1,8 +1,5 @@
 -- The tests one after the other.
-use Prim.Native.Nat.{ℕ, _≤_}
-use mathlib.Core.Path.{_≡_, refl}
 use mathlib.Core.Logic.{inl, inr}
-use native.Mathlib.Omega.{arith}
 use borrow.Author.Needs.{needs}
 use Rattle.rules.proofs.Control.{m-in, m-out, r-out, length-decides}
 use Rattle.rules.proofs.control_allowed.Statement.{statement}

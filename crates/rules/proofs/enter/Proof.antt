@@ -1,10 +1,9 @@
 -- Each way out is a way of the definition.
 use Prim.Native.Nat.{_+_, _/_, _≤_, _<_}
-use mathlib.Core.Path.{_≡_, refl, sym, ap, ap₂, _∙_}
+use mathlib.Core.Path.{_≡_, sym, _∙_}
 use native.Mathlib.Omega.{arith}
 use borrow.Author.Needs.{needs}
 use borrow.Author.Tests.{not-true, not-false}
-use Rattle.model.specs.declared.Cap.{Cap}
 use Rattle.rules.specs.Owners.{firstCell}
 use Rattle.rules.proofs.Enters.{m-most, small, most-bytes, as-cells, in-array, first-in-array, below-typed, outside, is-held, others-own, takes}
 use Rattle.rules.proofs.enter.Statement.{statement}

@@ -1,11 +1,8 @@
 -- The tests one after the other; the size test comes before those that shift by the size.
-use Prim.Native.Nat.{_≤_}
-use mathlib.Core.Path.{_≡_, sym, _∙_}
-use mathlib.Core.Bool.{true, false}
+use mathlib.Core.Path.{sym, _∙_}
 use native.Mathlib.Omega.{arith}
 use borrow.Author.Needs.{needs}
 use borrow.Author.Tests.{not-true, not-false}
-use Rattle.model.specs.Edition.{edition32}
 use Rattle.model.specs.Rules.{mInRange}
 use Rattle.model.proofs.Booleans.{within-parts}
 use Rattle.rules_row.proofs.Tests.{size-fails, place-fails, third-fails, fourth-decides, untyped-most}

@@ -1,5 +1,5 @@
 -- Each arm is the definition at its kinds.
-use mathlib.Core.Logic.{_⊎_, inl, inr, ⊎-elim}
+use mathlib.Core.Logic.{inl, inr, ⊎-elim}
 use borrow.Author.Tests.{ne-eqb}
 use Rattle.model.specs.Cap.{rightsOf}
 use Rattle.rules_row.proofs.rights_of.Statement.{statement}

@@ -19,7 +19,9 @@ cap-at-requires : tie.Need-cap-at-requires
 cap-at-requires c κs = search needs
 
 full-requires : tie.Need-full-requires
-full-requires c κs = rw (c .cap-at .ensures) (size-small _ (c .before .before .before .before .before .before .before .pre .formed) _ (c .before .before .before .before .before .before .before .pre .way .held) (c .before .before .before .before .before .before .before .pre .way .fromIn))
+full-requires c κs =
+    let start = c .before .before .before .before .before .before .before in
+    rw (c .cap-at .ensures) (size-small _ (start .pre .formed) _ (start .pre .way .held) (start .pre .way .fromIn))
 
 put-cap-requires : tie.Need-put-cap-requires
 put-cap-requires c κs = search needs
@@ -28,10 +30,14 @@ fresh-requires : tie.Need-fresh-requires
 fresh-requires c κs = search needs
 
 add-link : tie.Need-add-link
-add-link c = omega (arith, c .before .before .before .before .before .before .before .before .before .word2 .ensures, depth-small _ (c .before .before .before .before .before .before .before .before .before .before .before .before .before .before .pre .formed) _ (c .before .before .before .before .before .before .before .before .before .before .before .before .before .before .pre .way .held))
+add-link c =
+    let start = c .before .before .before .before .before .before .before .before .before .before .before .before .before .before in
+    omega (arith, c .before .before .before .before .before .before .before .before .before .word2 .ensures, depth-small _ (start .pre .formed) _ (start .pre .way .held))
 
 link-requires : tie.Need-link-requires
-link-requires c κs = (omega (arith, c .before .before .before .before .before .before .before .before .before .before .before .before .before .before .pre .way .fromIn), omega (arith, c .before .before .before .before .before .before .before .before .before .before .before .before .before .before .pre .way .toIn))
+link-requires c κs =
+    let way = c .before .before .before .before .before .before .before .before .before .before .before .before .before .before .pre .way in
+    (omega (arith, way .fromIn), omega (arith, way .toIn))
 
 element-copy-out-control : tie.Need-element-copy-out-control
 element-copy-out-control c = search needs
@@ -46,7 +52,10 @@ same-length : tie.Need-same-length
 same-length c = search needs
 
 returns : tie.Need-returns
-returns c = copies _ _ (c .before .before .before .before .before .before .before .before .before .before .before .before .before .before .before .before .before .before .pre) _ _ _ _ _ _ (c .before .before .before .before .before .before .before .before .before .before .before .before .before .before .before .word .ensures) (c .before .before .before .before .before .before .before .before .before .before .before .before .before .word2 .ensures) (c .before .before .before .before .before .before .before .before .before .before .full .ensures ∙ ap (full edition32) (c .before .before .before .before .before .before .before .before .before .before .before .cap-at .ensures)) (c .before .before .before .before .fresh .ensures) (c .before .before .before .before .before .before .before .before .put-cap .ensures) (c .before .before .before .link .ensures)
+returns c =
+    let old = c .before .before .before .before .before .before .before .before .before .before .before in
+    copies _ _ (old .before .before .before .before .before .before .before .pre) _ _ _ _ _ _ (old .before .before .before .before .word .ensures) (old .before .before .word2 .ensures)
+    (c .before .before .before .before .before .before .before .before .before .before .full .ensures ∙ ap (full edition32) (old .cap-at .ensures)) (c .before .before .before .before .fresh .ensures) (c .before .before .before .before .before .before .before .before .put-cap .ensures) (c .before .before .before .link .ensures)
 
 pub copied-spec : {M : Type 1} → statement M
 copied-spec =

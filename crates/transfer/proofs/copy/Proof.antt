@@ -16,7 +16,9 @@ enum-known-plan-2 : tie.Need-enum-known-plan-2
 enum-known-plan-2 c = search needs
 
 copy-along-requires : tie.Need-copy-along-requires
-copy-along-requires c κs = record { formed = c .before .before .before .before .before .before .before .before .pre .0; way = (rw (c .before .before .before .plan2 .given .1) at (c .before .before .before .before .before .planned .ensures)) .goes _ refl }
+copy-along-requires c κs =
+    let plan = c .before .before .before in
+    record { formed = plan .before .before .before .before .before .pre .0; way = (rw (plan .plan2 .given .1) at (plan .before .before .planned .ensures)) .goes _ refl }
 
 same-length : tie.Need-same-length
 same-length c = search needs
@@ -28,7 +30,9 @@ same-length-2 : tie.Need-same-length-2
 same-length-2 c = search needs
 
 returns-2 : tie.Need-returns-2
-returns-2 c = copy-goes _ (c .before .before .before .before .before .before .before .before .before .before .before .pre .0) _ _ _ _ ((rw (c .before .before .before .before .before .before .plan2 .given .1) at (c .before .before .before .before .before .before .before .before .planned .ensures)) .is) _ (c .before .before .copy-along .ensures)
+returns-2 c =
+    let plan = c .before .before .before .before .before .before in
+    copy-goes _ (plan .before .before .before .before .before .pre .0) _ _ _ _ ((rw (plan .plan2 .given .1) at (plan .before .before .planned .ensures)) .is) _ (c .before .before .copy-along .ensures)
 
 pub copy-spec : {M : Type 1} → statement M
 copy-spec =

@@ -28,7 +28,10 @@ same-length-2 : tie.Need-same-length-2
 same-length-2 c = search needs
 
 returns-2 : tie.Need-returns-2
-returns-2 c = let plans = rw (c .before .before .before .before .before .before .plan2 .given .1) at (c .before .before .before .before .before .before .before .before .planned .ensures) in move-goes _ (c .before .before .before .before .before .before .before .before .before .before .before .pre .0) _ _ _ _ (plans .is) (plans .goes _ refl) _ (c .before .before .shift .ensures)
+returns-2 c =
+    let plan = c .before .before .before .before .before .before in
+    let plans = rw (plan .plan2 .given .1) at (plan .before .before .planned .ensures) in
+    move-goes _ (plan .before .before .before .before .before .pre .0) _ _ _ _ (plans .is) (plans .goes _ refl) _ (c .before .before .shift .ensures)
 
 pub relocate-spec : {M : Type 1} → statement M
 relocate-spec =

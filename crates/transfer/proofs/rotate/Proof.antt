@@ -25,7 +25,9 @@ enum-known-turning-2 : tie.Need-enum-known-turning-2
 enum-known-turning-2 c = search needs
 
 turned-requires : tie.Need-turned-requires
-turned-requires c κs = can-turn _ (c .before .before .before .before .before .before .before .before .before .before .before .before .before .pre .0) _ _ (rw (c .before .before .before .before .before .before .before .before .located2 .given .1) at (c .before .before .before .before .before .before .before .before .before .before .three-rows .ensures)) _ _ (rw (c .before .before .before .turning2 .given .1) at (c .before .before .before .before .before .turn-at .ensures))
+turned-requires c κs =
+    let rows = c .before .before .before .before .before .before .before .before in
+    can-turn _ (rows .before .before .before .before .before .pre .0) _ _ ((rw (rows .located2 .given .1) at (rows .before .before .three-rows .ensures)) .inside _ refl) ((rw (c .before .before .before .turning2 .given .1) at (c .before .before .before .before .before .turn-at .ensures)) .goes _ refl)
 
 same-length : tie.Need-same-length
 same-length c = search needs
@@ -37,13 +39,18 @@ same-length-2 : tie.Need-same-length-2
 same-length-2 c = search needs
 
 returns-2 : tie.Need-returns-2
-returns-2 c = rotate-stops _ (c .before .before .before .before .before .before .before .before .before .before .before .pre .0) _ _ _ _ _ _ ((rw (c .before .before .before .before .before .before .located2 .given .1) at (c .before .before .before .before .before .before .before .before .three-rows .ensures)) .is) _ ((rw (c .before .turning .given .1) at (c .before .before .before .turn-at .ensures)) .is)
+returns-2 c =
+    let rows = c .before .before .before .before .before .before in
+    rotate-stops _ (rows .before .before .before .before .before .pre .0) _ _ _ _ _ _ ((rw (rows .located2 .given .1) at (rows .before .before .three-rows .ensures)) .is) _ ((rw (c .before .turning .given .1) at (c .before .before .before .turn-at .ensures)) .is)
 
 same-length-3 : tie.Need-same-length-3
 same-length-3 c = search needs
 
 returns-3 : tie.Need-returns-3
-returns-3 c = rotate-goes _ (c .before .before .before .before .before .before .before .before .before .before .before .before .before .before .before .before .pre .0) _ _ _ _ _ _ ((rw (c .before .before .before .before .before .before .before .before .before .before .before .located2 .given .1) at (c .before .before .before .before .before .before .before .before .before .before .before .before .before .three-rows .ensures)) .is) _ ((rw (c .before .before .before .before .before .before .turning2 .given .1) at (c .before .before .before .before .before .before .before .before .turn-at .ensures)) .is) _ (c .before .before .turned .ensures)
+returns-3 c =
+    let turn = c .before .before .before .before .before .before in
+    let rows = turn .before .before .before .before .before in
+    rotate-goes _ (rows .before .before .before .before .before .pre .0) _ _ _ _ _ _ ((rw (rows .located2 .given .1) at (rows .before .before .three-rows .ensures)) .is) _ ((rw (turn .turning2 .given .1) at (turn .before .before .turn-at .ensures)) .is) _ (c .before .before .turned .ensures)
 
 pub rotate-spec : {M : Type 1} → statement M
 rotate-spec =

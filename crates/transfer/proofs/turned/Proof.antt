@@ -23,7 +23,9 @@ same-length-2 : tie.Need-same-length-2
 same-length-2 c = search needs
 
 returns-2 : tie.Need-returns-2
-returns-2 c = shifts-turn _ _ (c .before .before .before .before .before .before .before .before .before .before .before .before .before .before .pre) (c .before .before .before .before .before .before .before .before .before .before .if1 .left) _ _ (c .before .before .before .before .before .before .before .shift .ensures) (c .before .before .shift2 .ensures)
+returns-2 c =
+    let first = c .before .before .before .before .before .before .before in
+    shifts-turn _ _ (first .before .before .before .before .before .before .before .pre) (first .before .before .before .if1 .left) _ _ (first .shift .ensures) (c .before .before .shift2 .ensures)
 
 pub turned-spec : {M : Type 1} → statement M
 turned-spec =

@@ -11,8 +11,8 @@ use Rattle.retype.proofs.laying.lay_out.Tie as tie
 word-requires : tie.Need-word-requires
 word-requires c κs = search needs
 
-add-address : tie.Need-add-address
-add-address c = search needs
+add-base : tie.Need-add-base
+add-base c = search needs
 
 word-requires-2 : tie.Need-word-requires-2
 word-requires-2 c κs = search needs
@@ -84,7 +84,7 @@ lay-out-spec =
     tie.close
     (tie.spec
     word-requires
-    add-address
+    add-base
     word-requires-2
     word-requires-3
     add-depth

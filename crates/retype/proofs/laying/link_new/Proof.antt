@@ -1,8 +1,9 @@
 -- `retype::laying::link_new` meets its contract. The loop's invariant: what is left of the run, put after the row that was linked last, is the whole
 -- run. The measure is what is left. Assumes nothing.
-use Prim.Native.Nat.{ℕ, _+_, _*_, _^_, _≤_, _<_}
-use mathlib.Core.Path.{_≡_, refl, sym, ap, _∙_}
+use Prim.Native.Nat.{ℕ, _+_, _^_, _≤_, _<_}
+use mathlib.Core.Path.{_≡_, ap, _∙_}
 use native.Mathlib.Omega.{arith}
+use borrow.Author.Needs.{needs}
 use lib.Pow.{pow-pos}
 use Rattle.retype.proofs.Sizes.{exponent-small}
 use Rattle.retype.proofs.Run.{Laying, laying-named, laying-first, laying-next, laying-last}
@@ -10,10 +11,10 @@ use Rattle.retype.proofs.laying.link_new.Statement.{statement}
 use Rattle.retype.proofs.laying.link_new.Tie as tie
 
 abbrev Inv-loop : tie.InvT-loop
-Inv-loop t₀ next depth q address unit last₀ k₀ at₀ left₀ t last k at left = Laying t₀ next depth q unit last₀ k₀ at₀ left₀ t last k at left
+Inv-loop t₀ next depth q unit last₀ k₀ at₀ left₀ t last k at left = Laying t₀ next depth q unit last₀ k₀ at₀ left₀ t last k at left
 
 abbrev μ-loop : tie.MeasureT-loop
-μ-loop t₀ next depth q address unit last₀ k₀ at₀ left₀ t last k at left = left
+μ-loop t₀ next depth q unit last₀ k₀ at₀ left₀ t last k at left = left
 
 exponent-requires : tie.Need-exponent-requires Inv-loop μ-loop
 exponent-requires c κs = tt
@@ -24,30 +25,33 @@ cast-pow2 c = omega (arith, c .exponent .ensures, exponent-small _ _ (c .before 
 pow2-requires : tie.Need-pow2-requires Inv-loop μ-loop
 pow2-requires c κs = omega (arith, c .exponent .ensures, exponent-small _ _ (c .before .before .pre .known))
 
-loop-holds : tie.Need-loop-holds Inv-loop μ-loop
-loop-holds c = laying-first _ _ _ _ _ _ _ _ (c .pow2 .ensures ∙ ap (λ (e : ℕ). 2 ^ e) (c .before .exponent .ensures)) (c .before .before .before .pre)
+cast-at : tie.Need-cast-at Inv-loop μ-loop
+cast-at c = search needs
 
-ends : (k : tie.In-loop Inv-loop μ-loop) → k .before .loop .at + k .before .before .pow2 .result ≤ 4294967296
+loop-holds : tie.Need-loop-holds Inv-loop μ-loop
+loop-holds c = laying-first _ _ _ _ _ _ _ _ (c .before .pow2 .ensures ∙ ap (λ (e : ℕ). 2 ^ e) (c .before .before .exponent .ensures)) (c .before .before .before .before .pre)
+
+ends : (k : tie.In-loop Inv-loop μ-loop) → k .before .loop .at + k .before .before .before .pow2 .result ≤ 4294967296
 ends k = laying-named _ _ _ _ _ _ _ _ _ _ _ _ _ _ (k .loop-test .taken) (k .before .loop .inv)
 
-cast-at : (at u e : ℕ) → u ≡ 2 ^ e → at + u ≤ 4294967296 → at < 4294967296
-cast-at at u e p h = let positive : 0 < 2 ^ e = pow-pos e in omega arith
+ends-above : (at u e : ℕ) → u ≡ 2 ^ e → at + u ≤ 4294967296 → at < 4294967296
+ends-above at u e p h = let positive : 0 < 2 ^ e = pow-pos e in omega arith
 
-cast-t17 : tie.Need-cast-t17 Inv-loop μ-loop
-cast-t17 c = record { fits = cast-at _ _ _ (c .before .before .pow2 .ensures) (ends c) }
+cast-byte : tie.Need-cast-byte Inv-loop μ-loop
+cast-byte c = record { fits = ends-above _ _ _ (c .before .before .before .pow2 .ensures) (ends c) }
 
 new-cap-requires : tie.Need-new-cap-requires Inv-loop μ-loop
-new-cap-requires c κs = c .before .before .before .before .before .pre .known
+new-cap-requires c κs = c .before .before .before .before .before .before .pre .known
 
 link-requires : tie.Need-link-requires Inv-loop μ-loop
 link-requires c κs =
     let l = c .before .before .before .loop .inv in
-    let room = c .before .before .before .before .before .before .before .pre in
+    let room = c .before .before .before .before .before .before .before .before .pre in
     (omega (arith, l .kept, l .long), omega (arith, l .rows, l .long, room .rows))
 
 add-k : tie.Need-add-k Inv-loop μ-loop
 add-k c =
-    omega (arith, c .before .before .before .before .before .before .loop .inv .rows, c .before .before .before .before .before .before .before .before .before .before .pre .few)
+    omega (arith, c .before .before .before .before .before .before .loop .inv .rows, c .before .before .before .before .before .before .before .before .before .before .before .pre .few)
 
 add-at : tie.Need-add-at Inv-loop μ-loop
 add-at c = omega (arith, ends (c .before .before .before .before .before))
@@ -61,7 +65,7 @@ loop-less c = omega arith
 loop-again : tie.Need-loop-again Inv-loop μ-loop
 loop-again c =
     let k = c .before .before .before .before .before in
-    let at-start = k .before .before in
+    let at-start = k .before .before .before in
     laying-next _ _ _ _ _ _ _ _ _ _ _ _ _ _ _ _ (at-start .pow2 .ensures ∙ ap (λ (e : ℕ). 2 ^ e) (at-start .before .exponent .ensures)) (at-start .before .before .before .pre .rows)
     (k .loop-test .taken) (c .before .before .before .before .new-cap .ensures) (c .before .before .link .ensures) (k .before .loop .inv)
 
@@ -80,8 +84,9 @@ link-new-spec =
     exponent-requires
     cast-pow2
     pow2-requires
+    cast-at
     loop-holds
-    cast-t17
+    cast-byte
     new-cap-requires
     link-requires
     add-k

@@ -7,7 +7,7 @@ use mathlib.Core.Bool.{cond}
 use native.Mathlib.Omega.{arith}
 use lib.Dec.{eqb}
 use borrow.Author.Needs.{needs}
-use borrow.Author.Tests.{eq-eqb, ne-eqb}
+use borrow.Author.Tests.{ne-eqb}
 use Rattle.model.specs.Edition.{edition32}
 use Rattle.model.specs.declared.Cap.{Cap}
 use Rattle.model.specs.declared.Address.{Address}
@@ -17,6 +17,7 @@ use Rattle.retype.proofs.Sizes.{exponent-small}
 use Rattle.retype.proofs.object.new_cap.Statement.{statement}
 use Rattle.retype.proofs.object.new_cap.Tie as tie
 
+-- a CNode's radix, else the power of two of the object's bytes
 abbrev shownSize : (object size : ℕ) → ℕ
 shownSize object size = cond (eqb object 4) size (exponent edition32 object size)
 
@@ -37,8 +38,8 @@ exponent-requires c κs = search needs
 cast-shown : tie.Need-cast-shown
 cast-shown c = omega (arith, c .exponent .ensures, exponent-small _ _ (c .before .before .pre))
 
-add-t7 : tie.Need-add-t7
-add-t7 c = search needs
+add-kind : tie.Need-add-kind
+add-kind c = search needs
 
 full-rights-requires : tie.Need-full-rights-requires
 full-rights-requires c κs = search needs
@@ -51,4 +52,4 @@ returns c =
 
 pub new-cap-spec : {M : Type 1} → statement M
 new-cap-spec =
-    tie.close (tie.spec exponent-requires cast-shown add-t7 full-rights-requires returns)
+    tie.close (tie.spec exponent-requires cast-shown add-kind full-rights-requires returns)

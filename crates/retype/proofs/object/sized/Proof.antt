@@ -3,7 +3,7 @@
 use mathlib.Core.Path.{sym, _∙_}
 use borrow.Author.Needs.{needs}
 use borrow.Author.Tests.{lt-ltb, le-ltb}
-use Rattle.model.specs.Check.{refuse, _>>_}
+use Rattle.model.specs.Check.{refuse}
 use Rattle.retype.specs.Window.{sized}
 use Rattle.retype.proofs.Tests.{stops, passes}
 use Rattle.retype.proofs.object.sized.Statement.{statement}

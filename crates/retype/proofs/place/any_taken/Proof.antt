@@ -1,9 +1,8 @@
 -- `retype::place::any_taken` meets its contract. The loop's invariant: what is left of the window has an occupied row as the whole has.
 -- The measure is what is left. Assumes nothing.
-use Prim.Native.Nat.{_+_, _*_, _≤_}
-use mathlib.Core.Path.{_≡_, refl, sym, _∙_}
+use Prim.Native.Nat.{_+_}
+use mathlib.Core.Path.{_≡_, refl, _∙_}
 use native.Mathlib.Omega.{arith}
-use lib.ListN.{length}
 use Rattle.model.specs.Tables.{capOf}
 use Rattle.retype.specs.Window.{takenBy}
 use Rattle.retype.proofs.Tests.{taken-none, taken-here, taken-next, empty-word, taken-word}

@@ -1,11 +1,8 @@
 -- `retype::place::vacant_window` meets its contract: the window in the node lies in the table, and its rows are looked through.
 -- Assumes nothing.
-use mathlib.Core.Path.{_≡_, sym, ap, _∙_}
+use mathlib.Core.Path.{sym, ap, _∙_}
 use borrow.Author.Needs.{needs}
-use Rattle.model.specs.Edition.{edition32}
-use Rattle.model.specs.Check.{passed, refused}
 use Rattle.lookup.specs.Finds.{ofFound}
-use Rattle.retype.specs.Window.{windowIn}
 use Rattle.retype.proofs.Passed.{node-room, window-inside}
 use Rattle.retype.proofs.Slots.{vacant-refused, vacant-taken, vacant-free}
 use Rattle.retype.proofs.place.vacant_window.Statement.{statement}

@@ -1,6 +1,6 @@
 -- `retype::place::window` meets its contract: each way out is a law of Windows.
 -- Assumes nothing.
-use Prim.Native.Nat.{ℕ, _+_, _≤_, _<_}
+use Prim.Native.Nat.{_≤_}
 use mathlib.Core.Path.{_≡_}
 use mathlib.Core.Bool.{false, _||_}
 use mathlib.Core.Logic.{⊎-elim}
@@ -18,7 +18,7 @@ returns : tie.Need-returns
 returns c = no-node _ _ _ (c .if1 .taken)
 
 slots-of-requires : tie.Need-slots-of-requires
-slots-of-requires c κs = omega (arith, radix-small _ (c .before .before .args .q) (c .before .before .pre) (c .if1 .left))
+slots-of-requires c κs = omega (arith, radix-small _ (c .before .before .pre) (c .if1 .left))
 
 -- the slots that are there
 few : (c : tie.After-slots-of) → c .slots-of .result ≤ 4096

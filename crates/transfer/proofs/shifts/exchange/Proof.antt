@@ -57,7 +57,18 @@ same-length : tie.Need-same-length
 same-length c = search needs
 
 returns : tie.Need-returns
-returns c = let a = c .before .before .before .before .before .before .before .before .before .before .before .before .before .before .before .before .before .before .before .before .before .before .before .before .before .before .before .args in exchanges (lent (now (a .t)) (now (a .control))) (a .a .0) (a .b .0) (a .c) (a .d) _ _ _ _ _ _ _ _ _ (c .before .before .before .before .before .before .before .before .before .before .before .before .before .before .before .before .before .before .before .before .before .before .before .swapped .ensures ∙ ap (swapped (a .a .0) (a .b .0)) (c .before .before .before .before .before .before .before .before .before .before .before .before .before .before .before .before .before .before .before .before .before .before .before .before .word .ensures)) (c .before .before .before .before .before .before .before .before .before .before .before .before .before .before .before .before .before .before .before .before .swapped2 .ensures ∙ ap (swapped (a .a .0) (a .b .0)) (c .before .before .before .before .before .before .before .before .before .before .before .before .before .before .before .before .before .before .before .before .before .word2 .ensures)) (c .before .before .before .before .before .before .before .before .before .before .before .before .before .before .before .before .before .before .word3 .ensures) (c .before .before .before .before .before .before .before .before .before .before .before .before .before .before .before .swapped3 .ensures ∙ ap (swapped (a .a .0) (a .b .0)) (c .before .before .before .before .before .before .before .before .before .before .before .before .before .before .before .before .word4 .ensures)) (c .before .before .before .before .before .before .before .before .before .before .before .before .swapped4 .ensures ∙ ap (swapped (a .a .0) (a .b .0)) (c .before .before .before .before .before .before .before .before .before .before .before .before .before .word5 .ensures)) (c .before .before .before .before .before .before .before .before .before .before .word6 .ensures) (c .before .before .before .before .before .before .before .before .link-between .ensures) (c .before .before .before .before .link-between2 .ensures) (c .swapped5 .ensures)
+returns c =
+    let second = c .before .before .before .before .before .before .before .before .before .before in
+    let first = second .before .before .before .before .before .before .before .before in
+    let args = first .before .before .before .before .before .before .before .before .before .args in
+    exchanges (lent (now (args .t)) (now (args .control))) (args .a .0) (args .b .0) (args .c) (args .d) _ _ _ _ _ _ _ _ _
+    (first .before .before .before .before .before .swapped .ensures ∙ ap (swapped (args .a .0) (args .b .0)) (first .before .before .before .before .before .before .word .ensures))
+    (first .before .before .swapped2 .ensures ∙ ap (swapped (args .a .0) (args .b .0)) (first .before .before .before .word2 .ensures))
+    (first .word3 .ensures)
+    (second .before .before .before .before .before .swapped3 .ensures ∙ ap (swapped (args .a .0) (args .b .0)) (second .before .before .before .before .before .before .word4 .ensures))
+    (second .before .before .swapped4 .ensures ∙ ap (swapped (args .a .0) (args .b .0)) (second .before .before .before .word5 .ensures))
+    (second .word6 .ensures)
+    (c .before .before .before .before .before .before .before .before .link-between .ensures) (c .before .before .before .before .link-between2 .ensures) (c .swapped5 .ensures)
 
 pub exchange-spec : {M : Type 1} → statement M
 exchange-spec =

@@ -28,13 +28,23 @@ same-length : tie.Need-same-length
 same-length c = search needs
 
 returns : tie.Need-returns
-returns c = let a = c .before .before .before .before .before .before .before .before .before .before .before .before .before .before .before .before .args in moves-first (lent (now (a .t)) (now (a .control))) (a .from .0) (a .to .0) (a .c) _ _ _ _ _ (c .before .before .before .before .before .before .before .before .before .before .before .before .before .word .ensures) (c .before .before .before .before .before .before .before .before .before .before .before .word2 .ensures) (c .before .before .before .before .before .before .before .before .before .word3 .ensures) (c .before .before .before .before .before .before .before .link .ensures) (c .before .before .before .unlink .ensures) (c .if1 .taken)
+returns c =
+    let read = c .before .before .before .before .before .before .before .before .before in
+    let args = read .before .before .before .before .before .before .before .args in
+    moves-first (lent (now (args .t)) (now (args .control))) (args .from .0) (args .to .0) (args .c) _ _ _ _ _
+    (read .before .before .before .before .word .ensures) (read .before .before .word2 .ensures) (read .word3 .ensures)
+    (c .before .before .before .before .before .before .before .link .ensures) (c .before .before .before .unlink .ensures) (c .if1 .taken)
 
 same-length-2 : tie.Need-same-length-2
 same-length-2 c = search needs
 
 returns-2 : tie.Need-returns-2
-returns-2 c = let a = c .before .before .before .before .before .before .before .before .before .before .before .before .before .before .before .before .args in moves-later (lent (now (a .t)) (now (a .control))) (a .from .0) (a .to .0) (a .c) _ _ _ _ _ (c .before .before .before .before .before .before .before .before .before .before .before .before .before .word .ensures) (c .before .before .before .before .before .before .before .before .before .before .before .word2 .ensures) (c .before .before .before .before .before .before .before .before .before .word3 .ensures) (c .before .before .before .before .before .before .before .link .ensures) (c .before .before .before .unlink .ensures) (c .if1 .left)
+returns-2 c =
+    let read = c .before .before .before .before .before .before .before .before .before in
+    let args = read .before .before .before .before .before .before .before .args in
+    moves-later (lent (now (args .t)) (now (args .control))) (args .from .0) (args .to .0) (args .c) _ _ _ _ _
+    (read .before .before .before .before .word .ensures) (read .before .before .word2 .ensures) (read .word3 .ensures)
+    (c .before .before .before .before .before .before .before .link .ensures) (c .before .before .before .unlink .ensures) (c .if1 .left)
 
 pub shift-spec : {M : Type 1} → statement M
 shift-spec =

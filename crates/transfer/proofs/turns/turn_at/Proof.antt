@@ -1,16 +1,13 @@
 -- The law of `Turning` for each way out.
 -- The law of `Turning` for each way out.
 use mathlib.Core.Bool.{false, not, _&&_, _||_}
-use mathlib.Core.Path.{_≡_, _∙_, ap₂}
+use mathlib.Core.Path.{_≡_}
 use mathlib.Core.Logic.{⊎-elim}
 use lib.Dec.{eqb}
 use denote.Ref.{now}
 use borrow.Author.Needs.{needs}
-use Rattle.model.specs.Edition.{edition32}
-use Rattle.model.specs.declared.Cap.{Cap}
 use Rattle.model.specs.Tables.{capOf}
 use Rattle.model.specs.Cap.{isEmpty}
-use Rattle.transfer.specs.Turns.{turnCaps}
 use Rattle.transfer.proofs.Turning.{equal-first, equal-second, equal-none, empty-there, held-there, both-true, first-false, second-false}
 use Rattle.transfer.proofs.Turning.{not-apart, occupied, source-missing, pivot-missing, turns-on}
 use Rattle.transfer.proofs.turns.turn_at.Statement.{statement}
@@ -40,24 +37,32 @@ vacant j =
     (λ w. first-false (not (eqb (start j .args .rows .to .0) (start j .args .rows .from .0))) (empty-there _ _ _ (j .before .before .cap-at .ensures) (w .left)))
     (j .if3 .came)
 
-
 cap-at-requires-2 : tie.Need-cap-at-requires-2
 cap-at-requires-2 c κs = search needs
 
 returns-3 : tie.Need-returns-3
-returns-3 c = source-missing _ _ _ _ _ _ (differ (c .before .before .before)) (vacant (c .before .before .before)) (empty-there _ _ _ (c .before .before .cap-at2 .ensures) (c .if5 .taken))
+returns-3 c =
+    let tested = c .before .before .before in
+    source-missing _ _ _ _ _ _ (differ tested) (vacant tested) (empty-there _ _ _ (c .before .before .cap-at2 .ensures) (c .if5 .taken))
 
 cap-at-requires-3 : tie.Need-cap-at-requires-3
 cap-at-requires-3 c κs = search needs
 
 returns-4 : tie.Need-returns-4
-returns-4 c = pivot-missing _ _ _ _ _ _ (differ (c .before .before .before .before .before .before)) (vacant (c .before .before .before .before .before .before)) (held-there _ _ _ (c .before .before .before .before .before .cap-at2 .ensures) (c .before .before .before .if5 .left)) (empty-there _ _ _ (c .before .before .cap-at3 .ensures) (c .if6 .taken))
+returns-4 c =
+    let moving = c .before .before .before in
+    let tested = moving .before .before .before in
+    pivot-missing _ _ _ _ _ _ (differ tested) (vacant tested) (held-there _ _ _ (moving .before .before .cap-at2 .ensures) (moving .if5 .left)) (empty-there _ _ _ (c .before .before .cap-at3 .ensures) (c .if6 .taken))
 
 turn-caps-requires : tie.Need-turn-caps-requires
 turn-caps-requires c κs = search needs
 
 returns-5 : tie.Need-returns-5
-returns-5 c = turns-on _ _ _ _ _ _ (differ (c .before .before .before .before .before .before .before)) (vacant (c .before .before .before .before .before .before .before)) (held-there _ _ _ (c .before .before .before .before .before .before .cap-at2 .ensures) (c .before .before .before .before .if5 .left)) (held-there _ _ _ (c .before .before .before .cap-at3 .ensures) (c .before .if6 .left)) _ (c .turn-caps .ensures ∙ ap₂ (λ (p s : Cap). turnCaps edition32 (c .before .before .before .before .before .before .before .before .before .before .before .before .before .before .before .args .rows) p s (c .before .before .before .before .before .before .before .before .before .before .before .before .before .before .before .args .datum) (c .before .before .before .before .before .before .before .before .before .before .before .before .before .before .before .args .pivot-datum)) (c .before .before .before .cap-at3 .ensures) (c .before .before .before .before .before .before .cap-at2 .ensures))
+returns-5 c =
+    let moving = c .before .before .before .before in
+    let tested = moving .before .before .before in
+    turns-on _ _ _ _ _ _ (differ tested) (vacant tested) (held-there _ _ _ (moving .before .before .cap-at2 .ensures) (moving .if5 .left)) (held-there _ _ _ (c .before .before .before .cap-at3 .ensures) (c .before .if6 .left)) _ _ _
+    (c .before .before .before .cap-at3 .ensures) (moving .before .before .cap-at2 .ensures) (c .turn-caps .ensures)
 
 pub turn-at-spec : {M : Type 1} → statement M
 turn-at-spec =

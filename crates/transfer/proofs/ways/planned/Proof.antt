@@ -39,13 +39,23 @@ returns : tie.Need-returns
 returns c = no-destination _ _ _ _ _ (rw (c .before .free .given .1) at (c .before .before .before .free-slot .ensures))
 
 returns-2 : tie.Need-returns-2
-returns-2 c = no-source _ _ _ _ _ (rw (c .before .before .before .before .before .free2 .given .1) at (c .before .before .before .before .before .before .before .free-slot .ensures)) _ (rw (c .before .held .given .1) at (c .before .before .before .held-slot .ensures))
+returns-2 c =
+    let to = c .before .before .before .before .before in
+    no-source _ _ _ _ _ (rw (to .free2 .given .1) at (to .before .before .free-slot .ensures)) _ (rw (c .before .held .given .1) at (c .before .before .before .held-slot .ensures))
 
 returns-3 : tie.Need-returns-3
-returns-3 c = barred _ _ _ _ _ (rw (c .before .before .before .before .before .before .before .before .before .free2 .given .1) at (c .before .before .before .before .before .before .before .before .before .before .before .free-slot .ensures)) _ (rw (c .before .before .before .before .before .held2 .given .1) at (c .before .before .before .before .before .before .before .held-slot .ensures)) _ (c .before .before .before .cap-at .ensures) (rw (c .enum-told .given .1) at (c .before .before .change .ensures))
+returns-3 c =
+    let from = c .before .before .before .before .before in
+    let to = from .before .before .before .before in
+    barred _ _ _ _ _ (rw (to .free2 .given .1) at (to .before .before .free-slot .ensures)) _ (rw (from .held2 .given .1) at (from .before .before .held-slot .ensures)) _ (c .before .before .before .cap-at .ensures)
+    (rw (c .enum-told .given .1) at (c .before .before .change .ensures))
 
 returns-4 : tie.Need-returns-4
-returns-4 c = planned _ _ _ _ _ (rw (c .before .before .before .before .before .before .before .before .before .before .free2 .given .1) at (c .before .before .before .before .before .before .before .before .before .before .before .before .free-slot .ensures)) _ (rw (c .before .before .before .before .before .before .held2 .given .1) at (c .before .before .before .before .before .before .before .before .held-slot .ensures)) _ (c .before .before .before .before .cap-at .ensures) _ (rw (c .before .altered .given .1) at (c .before .before .before .change .ensures))
+returns-4 c =
+    let from = c .before .before .before .before .before .before in
+    let to = from .before .before .before .before in
+    planned _ _ _ _ _ (rw (to .free2 .given .1) at (to .before .before .free-slot .ensures)) _ (rw (from .held2 .given .1) at (from .before .before .held-slot .ensures)) _ (c .before .before .before .before .cap-at .ensures) _
+    (rw (c .before .altered .given .1) at (c .before .before .before .change .ensures))
 
 pub planned-spec : {M : Type 1} → statement M
 planned-spec =

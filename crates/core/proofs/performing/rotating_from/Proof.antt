@@ -1,0 +1,88 @@
+-- The source's root, the three places and the two data, then what is done.
+use mathlib.Core.Path.{sym, ap, _∙_}
+use native.Mathlib.Omega.{arith}
+use Rattle.lookup.specs.Finds.{ofFound}
+use Rattle.lookup.proofs.WellFormed.{ready}
+use Rattle.core.proofs.Performed.{place-reached, turn-refused, turn-found}
+use borrow.Author.Needs.{needs}
+use Rattle.core.proofs.performing.rotating_from.Statement.{statement}
+use Rattle.core.proofs.performing.rotating_from.Tie as tie
+
+-- where the root was found, the lookup before it, and the entry
+abbrev named : tie.After-known-told2 → tie.After-row-named
+named c = c .before .before .before
+
+abbrev start : tie.After-known-told2 → tie.Start
+start c = named c .before .before .before .before
+
+abbrev root : tie.After-rotate-arg2 → tie.After-known-told2
+root c = c .before .before .before .before .before .before .before .before .before .before
+
+row-named-requires : tie.Need-row-named-requires
+row-named-requires c κs = ready _ (c .before .before .before .pre .0 .formed)
+
+enum-known-found : tie.Need-enum-known-found
+enum-known-found c = search needs
+
+enum-known-found-2 : tie.Need-enum-known-found-2
+enum-known-found-2 c = search needs
+
+place-requires : tie.Need-place-requires
+place-requires c κs = search needs
+
+place-requires-2 : tie.Need-place-requires-2
+place-requires-2 c κs = search needs
+
+place-requires-3 : tie.Need-place-requires-3
+place-requires-3 c κs = (omega arith, named (c .before .before .before .before .before) .row-named .ensures .inside _ (c .before .before .before .before .before .before .found2 .given .1))
+
+word-at-requires : tie.Need-word-at-requires
+word-at-requires c κs = search needs
+
+word-at-requires-2 : tie.Need-word-at-requires-2
+word-at-requires-2 c κs = search needs
+
+rotate-requires : tie.Need-rotate-requires
+rotate-requires c κs =
+    ( start (root c) .pre .0 .formed
+    , ( place-reached _ (start (root c) .pre .0 .formed) _ _ _ _ _ (c .before .before .before .before .before .before .before .before .place .ensures)
+      , ( place-reached _ (start (root c) .pre .0 .formed) _ _ _ _ _ (c .before .before .before .before .before .before .place2 .ensures)
+        , place-reached _ (start (root c) .pre .0 .formed) _ _ _ _ _ (c .before .before .before .before .place3 .ensures)
+        )
+      )
+    )
+
+same-length : tie.Need-same-length
+same-length c = search needs
+
+returns : tie.Need-returns
+returns c =
+    turn-refused _ (c .before .before .before .before .before .before .before .pre .0 .formed) _ _ _ _ _ (sym (c .before .before .before .row-named .ensures .is) ∙ ap ofFound (c .before .found .given .1))
+
+same-length-2 : tie.Need-same-length-2
+same-length-2 c = search needs
+
+returns-2 : tie.Need-returns-2
+returns-2 c =
+    let b = c .before .before .before in
+    c .before .before .rotate .ensures
+    ∙ turn-found _ (start (root b) .pre .0 .formed) _ _ _ _ _ _ _ _ _ _ (sym (named (root b) .row-named .ensures .is) ∙ ap ofFound (root b .before .found2 .given .1)) (b .before .before .before .before .before .before .before .before .place .ensures)
+      (b .before .before .before .before .before .before .place2 .ensures) (b .before .before .before .before .place3 .ensures) (b .before .before .before .word-at .ensures) (b .before .before .word-at2 .ensures)
+
+pub rotating-from-spec : {M : Type 1} → statement M
+rotating-from-spec =
+    tie.close
+    (tie.spec
+    row-named-requires
+    enum-known-found
+    enum-known-found-2
+    place-requires
+    place-requires-2
+    place-requires-3
+    word-at-requires
+    word-at-requires-2
+    rotate-requires
+    same-length
+    returns
+    same-length-2
+    returns-2)
