@@ -1,14 +1,17 @@
 # run: the product's main job. test: every test and every proof; its last line is 'N passed, 0 failed'.
 .PHONY: run test reference
 
-run: reference
-	rt check
-	reference/target/release/reference --cases
+run:
+	scripts/set-up
+	rt check console
+	scripts/tour
+	@echo "By hand: scripts/console < FILE, or scripts/console and lines as above; a line that is refused answers 'bad', and the end of the input ends it."
 
 test: reference
 	rt fmt --check
 	cd reference && cargo test --release --offline --quiet
 	reference/target/release/reference --cases
+	scripts/differential
 	rt ci
 
 # the independent second program

@@ -1,10 +1,12 @@
 // What a line asks for, and that it is done.
+use crate::estate::put_estate;
 use crate::line::Line;
 use crate::line::says_nothing;
 use crate::output::Pen;
 use crate::output::put_text;
 use crate::show::put_answer;
 use crate::show::show;
+use crate::tree::draw;
 ghost use mathlib.Core.Path.{_≡_};
 ghost use lib.ListN.{length};
 
@@ -17,6 +19,8 @@ pub enum Command {
     Row,
     Ask,
     Show,
+    Tree,
+    Estate,
     Bad,
 }
 
@@ -57,6 +61,16 @@ fn by_key(key: u64, count: usize) -> Command {
         0x173686f77 => {
             if count == 0 {
                 return Command::Show;
+            }
+        }
+        0x174726565 => {
+            if count == 0 {
+                return Command::Tree;
+            }
+        }
+        0x1657374617465 => {
+            if count == 1 {
+                return Command::Estate;
             }
         }
         _ => {}
@@ -149,6 +163,17 @@ fn boot_lent(
     desk
 }
 
+// A request on the lent table, and its answer.
+fn request_lent(table: &mut [u32], control: &mut [u32; 4], out: &mut [u8], desk: Desk, caller: u32, message: &[u32]) -> Desk {
+    let lent = desk.lent;
+    if lent <= table.len() {
+        let answer = core::request(&mut table[0..lent], control, caller, message);
+        let pen = put_answer(out, desk.pen, core::answer_words(answer));
+        return Desk { lent, pen };
+    }
+    desk
+}
+
 // `boot M R`
 fn boot(
     table: &mut [u32],
@@ -161,6 +186,17 @@ fn boot(
     let mut ready = desk;
     ready.lent = lend_for(table, m, desk.lent);
     boot_lent(table, control, out, ready, m, r)
+}
+
+// `ask CALLER W0 W1 ..`: a request, on the lent table, of the words after the first of a line's numbers.
+fn ask(table: &mut [u32], control: &mut [u32; 4], out: &mut [u8], desk: Desk, numbers: &[u32], count: usize) -> Desk {
+    if count < 1 {
+        return bad(out, desk);
+    }
+    if numbers.len() < count {
+        return bad(out, desk);
+    }
+    request_lent(table, control, out, desk, numbers[0], &numbers[1..count])
 }
 
 // `size N`: a table of N zero words, and control words 0.
@@ -211,6 +247,38 @@ fn show_lent(table: &[u32], control: &[u32; 4], out: &mut [u8], desk: Desk) -> D
     desk
 }
 
+// `tree`, of tables that are well-formed.
+fn draw_lent(table: &[u32], control: &[u32; 4], out: &mut [u8], desk: Desk) -> Desk {
+    let lent = desk.lent;
+    if table.len() < lent {
+        return desk;
+    }
+    let tables = &table[0..lent];
+    if !rules::check(tables, control) {
+        return bad(out, desk);
+    }
+    let pen = draw(tables, control[2], control[3], out, desk.pen);
+    Desk { lent, pen }
+}
+
+// `estate ROW`, of tables that are well-formed and have that row.
+fn estate_lent(table: &[u32], control: &[u32; 4], out: &mut [u8], desk: Desk, row: u32) -> Desk {
+    let lent = desk.lent;
+    if table.len() < lent {
+        return desk;
+    }
+    let end = row as usize * 8 + 8;
+    if lent < end {
+        return bad(out, desk);
+    }
+    let tables = &table[0..lent];
+    if !rules::check(tables, control) {
+        return bad(out, desk);
+    }
+    let pen = put_estate(tables, out, desk.pen, row);
+    Desk { lent, pen }
+}
+
 // Does what a line asks for.
 pub fn obey(
     table: &mut [u32],
@@ -230,7 +298,10 @@ pub fn obey(
             ok(out, desk)
         }
         Command::Row => set_row(table, out, desk, numbers[0], numbers),
+        Command::Ask => ask(table, control, out, desk, numbers, line.count),
         Command::Show => show_lent(table, control, out, desk),
-        _ => bad(out, desk),
+        Command::Tree => draw_lent(table, control, out, desk),
+        Command::Estate => estate_lent(table, control, out, desk, numbers[0]),
+        Command::Bad => bad(out, desk),
     }
 }
