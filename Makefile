@@ -18,3 +18,9 @@ test: reference
 reference:
 	scripts/set-up
 	cd reference && cargo build --release --offline --quiet
+
+# what a request costs, by table size and fill (not a test)
+.PHONY: benchmark
+benchmark: reference
+	rt check console
+	reference/target/release/reference --benchmark scripts/console

@@ -4,6 +4,7 @@
 //! whatever the paper says about them is computed by walking these, one small function for each notion.
 
 pub mod answers;
+pub mod benchmark;
 pub mod boot;
 pub mod cases;
 pub mod console;

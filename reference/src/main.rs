@@ -7,8 +7,9 @@
 //! - `--separation SEED COUNT`: COUNT pairs of tenants whose estates share no row, and as many whose estates share one;
 //!   then `N passed, M failed`; status 1 if one failed.
 //! - `--separation-lines SEED COUNT`: console lines of the runs of `--separation`.
+//! - `--benchmark PROGRAM [WORD ..]`: what a request costs that console and this program, by size and fill, and the ratio.
 
-use reference::{cases, console, coverage, generate, separation};
+use reference::{benchmark, cases, console, coverage, generate, separation};
 use std::io::{self, BufRead, Write};
 use std::process::exit;
 
@@ -70,6 +71,7 @@ fn run(arguments: &[&str], out: &mut impl Write) -> Option<io::Result<bool>> {
             let (seed, count) = (seed.parse().ok()?, count.parse().ok()?);
             Some(separation::lines(seed, count, out).map(|()| true))
         }
+        ["--benchmark", program @ ..] if !program.is_empty() => Some(benchmark::run(program, out).map(|()| true)),
         _ => None,
     }
 }

@@ -5,3 +5,4 @@ mod Gone
 mod Requested
 mod BootRows
 mod BootAnswers
+pub mod Determined
