@@ -51,12 +51,12 @@ unfolding withByte
 reads n [] h = rw (lt-ltb n 4294967296 h)
 reads n (b ∷ bs) h = go (isDigit b) refl (ltb (more n b) 4294967296) refl (reads (more n b) bs)
   where
-  go : (d : Bool) → isDigit b ≡ d → (s : Bool) → ltb (more n b) 4294967296 ≡ s → (more n b < 4294967296 → Read (more n b) bs) → Read n (b ∷ bs)
-  go false p s q later = rw p (none-stays bs)
-  go true p true q later = rw (p, q) (later (ltb-true _ _ q))
-  go true p false q later =
-    let large : 4294967296 ≤ valueFrom (more n b) bs = omega (arith, grows (more n b) bs, ltb-false (more n b) 4294967296 q) in
-    rw (p, q, le-ltb _ _ large, and-false) (none-stays bs)
+    go : (d : Bool) → isDigit b ≡ d → (s : Bool) → ltb (more n b) 4294967296 ≡ s → (more n b < 4294967296 → Read (more n b) bs) → Read n (b ∷ bs)
+    go false p s q later = rw p (none-stays bs)
+    go true p true q later = rw (p, q) (later (ltb-true _ _ q))
+    go true p false q later =
+        let large : 4294967296 ≤ valueFrom (more n b) bs = omega (arith, grows (more n b) bs, ltb-false (more n b) 4294967296 q) in
+        rw (p, q, le-ltb _ _ large, and-false) (none-stays bs)
 
 -- a digit more at the end
 value-end : (n : ℕ) (bs : List ℕ) (b : ℕ) → valueFrom n (bs ++ (b ∷ [])) ≡ more (valueFrom n bs) b

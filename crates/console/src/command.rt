@@ -164,7 +164,14 @@ fn boot_lent(
 }
 
 // A request on the lent table, and its answer.
-fn request_lent(table: &mut [u32], control: &mut [u32; 4], out: &mut [u8], desk: Desk, caller: u32, message: &[u32]) -> Desk {
+fn request_lent(
+    table: &mut [u32],
+    control: &mut [u32; 4],
+    out: &mut [u8],
+    desk: Desk,
+    caller: u32,
+    message: &[u32],
+) -> Desk {
     let lent = desk.lent;
     if lent <= table.len() {
         let answer = core::request(&mut table[0..lent], control, caller, message);
@@ -189,7 +196,14 @@ fn boot(
 }
 
 // `ask CALLER W0 W1 ..`: a request, on the lent table, of the words after the first of a line's numbers.
-fn ask(table: &mut [u32], control: &mut [u32; 4], out: &mut [u8], desk: Desk, numbers: &[u32], count: usize) -> Desk {
+fn ask(
+    table: &mut [u32],
+    control: &mut [u32; 4],
+    out: &mut [u8],
+    desk: Desk,
+    numbers: &[u32],
+    count: usize,
+) -> Desk {
     if count < 1 {
         return bad(out, desk);
     }

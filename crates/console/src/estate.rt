@@ -30,7 +30,13 @@ fn enter(marks: &mut [bool; 4096], queue: &mut [u32; 4096], count: usize, k: usi
 }
 
 // A run of rows enters.
-fn enter_run(marks: &mut [bool; 4096], queue: &mut [u32; 4096], count: usize, first: u32, n: u32) -> usize {
+fn enter_run(
+    marks: &mut [bool; 4096],
+    queue: &mut [u32; 4096],
+    count: usize,
+    first: u32,
+    n: u32,
+) -> usize {
     let mut entered = count;
     let mut i: u32 = 0;
     while i < n {
@@ -63,7 +69,14 @@ fn is_deeper(table: &[u32], row: u32, depth: u32) -> bool {
 }
 
 // The descendants of a row enter: the unbroken run after it with greater depth.
-fn enter_descendants(table: &[u32], marks: &mut [bool; 4096], queue: &mut [u32; 4096], count: usize, row: u32, depth: u32) -> usize {
+fn enter_descendants(
+    table: &[u32],
+    marks: &mut [bool; 4096],
+    queue: &mut [u32; 4096],
+    count: usize,
+    row: u32,
+    depth: u32,
+) -> usize {
     let mut entered = count;
     let mut at = next_row(table, row);
     let mut left: u32 = 4096;
@@ -81,7 +94,14 @@ fn same_typed(a: Cap, b: Cap) -> bool {
 }
 
 // Row k enters if it names the typed object of a capability.
-fn enter_same(table: &[u32], marks: &mut [bool; 4096], queue: &mut [u32; 4096], count: usize, cap: Cap, k: u32) -> usize {
+fn enter_same(
+    table: &[u32],
+    marks: &mut [bool; 4096],
+    queue: &mut [u32; 4096],
+    count: usize,
+    cap: Cap,
+    k: u32,
+) -> usize {
     let end = k as usize * 8 + 8;
     if end <= table.len() {
         if same_typed(cap, table::cap_at(table, Row(k))) {
@@ -92,7 +112,13 @@ fn enter_same(table: &[u32], marks: &mut [bool; 4096], queue: &mut [u32; 4096], 
 }
 
 // Every row that names the typed object of a capability enters.
-fn enter_naming(table: &[u32], marks: &mut [bool; 4096], queue: &mut [u32; 4096], count: usize, cap: Cap) -> usize {
+fn enter_naming(
+    table: &[u32],
+    marks: &mut [bool; 4096],
+    queue: &mut [u32; 4096],
+    count: usize,
+    cap: Cap,
+) -> usize {
     let mut entered = count;
     let mut k = 0;
     while k < 4096 {
@@ -103,7 +129,13 @@ fn enter_naming(table: &[u32], marks: &mut [bool; 4096], queue: &mut [u32; 4096]
 }
 
 // What a row brings in enters.
-fn bring(table: &[u32], marks: &mut [bool; 4096], queue: &mut [u32; 4096], count: usize, row: u32) -> usize {
+fn bring(
+    table: &[u32],
+    marks: &mut [bool; 4096],
+    queue: &mut [u32; 4096],
+    count: usize,
+    row: u32,
+) -> usize {
     let end = row as usize * 8 + 8;
     if table.len() < end {
         return count;
