@@ -1,3 +1,4 @@
+-- The table and the buffer keep their lengths, and each turn takes the next byte.
 use mathlib.Core.Path.{_≡_}
 use Prim.Native.Nat.{_≤_, _-_}
 use lib.ListN.{length}

@@ -1,5 +1,5 @@
+-- The arrays keep their lengths, so that they can be lent again. The measure is the number of turns that are left.
 use mathlib.Core.Path.{_≡_}
-use Prim.Native.Nat.{_≤_, _-_}
 use lib.ListN.{length}
 use borrow.Author.Needs.{needs}
 use Rattle.console.proofs.main.Statement.{statement}

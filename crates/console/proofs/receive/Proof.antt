@@ -1,3 +1,4 @@
+-- A line feed that is stored counts one byte of the buffer.
 use native.Mathlib.Omega.{arith}
 use lib.ListN.{set, length-set}
 use Rattle.io.proofs.Counting.{counts}

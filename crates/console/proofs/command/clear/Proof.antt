@@ -1,3 +1,4 @@
+-- The length stays, and each turn sets the next word.
 use mathlib.Core.Path.{_≡_}
 use Prim.Native.Nat.{_≤_, _-_}
 use native.Mathlib.Omega.{arith}

@@ -1,3 +1,4 @@
+-- The row keeps its eight words, and each turn stores the next.
 use mathlib.Core.Path.{_≡_}
 use Prim.Native.Nat.{_≤_, _-_}
 use native.Mathlib.Omega.{arith}

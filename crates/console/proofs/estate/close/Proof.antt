@@ -1,6 +1,5 @@
-use mathlib.Core.Path.{_≡_}
+-- Each turn takes the next row of the queue, which has no more than 4096.
 use Prim.Native.Nat.{_≤_, _-_}
-use lib.ListN.{length}
 use borrow.Author.Needs.{needs}
 use Rattle.console.proofs.estate.close.Statement.{statement}
 use Rattle.console.proofs.estate.close.Tie as tie

@@ -1,6 +1,4 @@
-use mathlib.Core.Path.{_≡_}
-use Prim.Native.Nat.{_≤_, _-_}
-use lib.ListN.{length}
+-- The measure is what is left of the largest table's rows.
 use borrow.Author.Needs.{needs}
 use Rattle.console.proofs.estate.enter_descendants.Statement.{statement}
 use Rattle.console.proofs.estate.enter_descendants.Tie as tie

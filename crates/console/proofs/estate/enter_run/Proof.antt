@@ -1,6 +1,5 @@
-use mathlib.Core.Path.{_≡_}
+-- Each turn is at the next row of the run.
 use Prim.Native.Nat.{_≤_, _-_}
-use lib.ListN.{length}
 use borrow.Author.Needs.{needs}
 use Rattle.console.proofs.estate.enter_run.Statement.{statement}
 use Rattle.console.proofs.estate.enter_run.Tie as tie

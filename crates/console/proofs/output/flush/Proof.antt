@@ -1,3 +1,4 @@
+-- The part that is handed on is as long as the pen says.
 use mathlib.Core.Path.{sym}
 use lib.Seq.{length-take-le}
 use borrow.Author.Needs.{needs}

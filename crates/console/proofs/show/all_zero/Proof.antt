@@ -1,4 +1,4 @@
-use mathlib.Core.Path.{_≡_}
+-- Each turn looks at the next word.
 use Prim.Native.Nat.{_≤_, _-_}
 use lib.ListN.{length}
 use borrow.Author.Needs.{needs}

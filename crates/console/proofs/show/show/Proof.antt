@@ -1,5 +1,6 @@
+-- The buffer keeps its length, and each turn shows the next row.
 use mathlib.Core.Path.{_≡_}
-use Prim.Native.Nat.{_≤_, _-_}
+use Prim.Native.Nat.{_-_}
 use lib.ListN.{length}
 use borrow.Author.Needs.{needs}
 use Rattle.console.proofs.show.show.Statement.{statement}
