@@ -1,7 +1,7 @@
 -- Reading a number byte by byte gives the number that the digits stand for, and no number where a byte is no digit or a word does not hold
 -- it: a number only grows by further digits. And a number that is printed in decimal is read back.
 use Prim.Native.Nat.{ℕ, zero, suc, _+_, _*_, _-_, _/_, _%_, _^_, _≤_, _<_}
-use mathlib.Core.Path.{_≡_, refl, _∙_, sym, ap}
+use mathlib.Core.Path.{_≡_, refl, _∙_}
 use mathlib.Core.Bool.{Bool, true, false, cond, _&&_}
 use mathlib.Core.List.{List, [], _∷_, _++_}
 use native.Mathlib.Omega.{arith}

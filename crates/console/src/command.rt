@@ -30,44 +30,52 @@ pub struct Desk {
     pub pen: Pen,
 }
 
-// A command by the key of its first word and the count of its numbers.
+// A command by the key of its first word, in hexadecimal 1 and then the word in ASCII, and the count of its numbers.
 fn by_key(key: u64, count: usize) -> Command {
     match key {
+        // boot
         0x1626f6f74 => {
             if count == 2 {
                 return Command::Boot;
             }
         }
+        // size
         0x173697a65 => {
             if count == 1 {
                 return Command::Size;
             }
         }
+        // control
         0x1636f6e74726f6c => {
             if count == 4 {
                 return Command::Control;
             }
         }
+        // row
         0x1726f77 => {
             if count == 9 {
                 return Command::Row;
             }
         }
+        // ask
         0x161736b => {
             if 1 <= count {
                 return Command::Ask;
             }
         }
+        // show
         0x173686f77 => {
             if count == 0 {
                 return Command::Show;
             }
         }
+        // tree
         0x174726565 => {
             if count == 0 {
                 return Command::Tree;
             }
         }
+        // estate
         0x1657374617465 => {
             if count == 1 {
                 return Command::Estate;

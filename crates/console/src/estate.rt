@@ -119,9 +119,10 @@ fn enter_naming(
     count: usize,
     cap: Cap,
 ) -> usize {
+    let rows = table.len() / 8;
     let mut entered = count;
     let mut k = 0;
-    while k < 4096 {
+    while k < 4096 && index(k) < rows {
         entered = enter_same(table, marks, queue, entered, cap, k);
         k += 1;
     }

@@ -1,12 +1,10 @@
+-- The table and the buffer keep their lengths, and each turn takes the next byte.
 use mathlib.Core.Path.{_≡_}
 use Prim.Native.Nat.{_≤_, _-_}
 use lib.ListN.{length}
 use borrow.Author.Needs.{needs}
 use Rattle.console.proofs.feed.Statement.{statement}
 use Rattle.console.proofs.feed.Tie as tie
-use Rattle.console.proofs.feed.Reads as reads
-use Rattle.console.proofs.feed.Lts as lts
-use Rattle.console.proofs.take.Reads as take-reads
 
 abbrev Inv-loop : tie.InvT-loop
 Inv-loop table₀ control₀ out₀ numbers₀ bytes next₀ i₀ table control out numbers next i = (i ≤ length bytes) × (length table ≡ length table₀) × (length out ≡ length out₀)
@@ -14,39 +12,30 @@ Inv-loop table₀ control₀ out₀ numbers₀ bytes next₀ i₀ table control 
 abbrev μ-loop : tie.MeasureT-loop
 μ-loop table₀ control₀ out₀ numbers₀ bytes next₀ i₀ table control out numbers next i = length bytes - i
 
--- src/main.rt:55:5
 loop-holds : tie.Need-loop-holds Inv-loop μ-loop
 loop-holds c = search needs
 
--- src/main.rt:56:57
 shared-slice-read-take : tie.Need-shared-slice-read-take Inv-loop μ-loop
 shared-slice-read-take c = search needs
 
--- src/main.rt:56:9
 take-requires : tie.Need-take-requires Inv-loop μ-loop
 take-requires c κs = search needs
 
--- src/main.rt:57:9
 add-i : tie.Need-add-i Inv-loop μ-loop
 add-i c = search needs
 
--- src/main.rt:55:5
 loop-less : tie.Need-loop-less Inv-loop μ-loop
 loop-less c = search needs
 
--- src/main.rt:55:5
 loop-again : tie.Need-loop-again Inv-loop μ-loop
 loop-again c = search needs
 
--- src/main.rt:45:1
 same-length : tie.Need-same-length Inv-loop μ-loop
 same-length c = search needs
 
--- src/main.rt:45:1
 same-length-2 : tie.Need-same-length-2 Inv-loop μ-loop
 same-length-2 c = search needs
 
--- src/main.rt:45:1
 returns : tie.Need-returns Inv-loop μ-loop
 returns c = search needs
 

@@ -1,3 +1,4 @@
+-- The length stays, and each turn sets the next word.
 use mathlib.Core.Path.{_≡_}
 use Prim.Native.Nat.{_≤_, _-_}
 use native.Mathlib.Omega.{arith}
@@ -5,8 +6,6 @@ use lib.ListN.{length, length-set}
 use borrow.Author.Needs.{needs}
 use Rattle.console.proofs.command.clear.Statement.{statement}
 use Rattle.console.proofs.command.clear.Tie as tie
-use Rattle.console.proofs.command.clear.Reads as reads
-use Rattle.console.proofs.command.clear.Lts as lts
 
 abbrev Inv-loop : tie.InvT-loop
 Inv-loop words₀ i₀ words i = (i ≤ length words) × (length words ≡ length words₀)
@@ -14,35 +13,27 @@ Inv-loop words₀ i₀ words i = (i ≤ length words) × (length words ≡ lengt
 abbrev μ-loop : tie.MeasureT-loop
 μ-loop words₀ i₀ words i = length words - i
 
--- src/command.rt:79:5
 loop-holds : tie.Need-loop-holds Inv-loop μ-loop
 loop-holds c = search needs
 
--- src/command.rt:80:9
 mul-words : tie.Need-mul-words Inv-loop μ-loop
 mul-words c = search needs
 
--- src/command.rt:80:9
 slice-write-words : tie.Need-slice-write-words Inv-loop μ-loop
 slice-write-words c = search needs
 
--- src/command.rt:81:9
 add-i : tie.Need-add-i Inv-loop μ-loop
 add-i c = search needs
 
--- src/command.rt:79:5
 loop-less : tie.Need-loop-less Inv-loop μ-loop
 loop-less c = simp length-set (omega arith)
 
--- src/command.rt:79:5
 loop-again : tie.Need-loop-again Inv-loop μ-loop
 loop-again c = (simp length-set (omega arith), simp length-set (omega arith))
 
--- src/command.rt:77:1
 same-length : tie.Need-same-length Inv-loop μ-loop
 same-length c = search needs
 
--- src/command.rt:77:1
 returns : tie.Need-returns Inv-loop μ-loop
 returns c = search needs
 

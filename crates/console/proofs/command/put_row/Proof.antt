@@ -1,3 +1,4 @@
+-- The row keeps its eight words, and each turn stores the next.
 use mathlib.Core.Path.{_≡_}
 use Prim.Native.Nat.{_≤_, _-_}
 use native.Mathlib.Omega.{arith}
@@ -5,8 +6,6 @@ use lib.ListN.{length, length-set}
 use borrow.Author.Needs.{needs}
 use Rattle.console.proofs.command.put_row.Statement.{statement}
 use Rattle.console.proofs.command.put_row.Tie as tie
-use Rattle.console.proofs.command.put_row.Reads as reads
-use Rattle.console.proofs.command.put_row.Lts as lts
 
 abbrev Inv-loop : tie.InvT-loop
 Inv-loop row₀ numbers i₀ row i = (i ≤ 8) × (length row ≡ 8) × (length row ≡ length row₀)
@@ -14,47 +13,36 @@ Inv-loop row₀ numbers i₀ row i = (i ≤ 8) × (length row ≡ 8) × (length 
 abbrev μ-loop : tie.MeasureT-loop
 μ-loop row₀ numbers i₀ row i = 8 - i
 
--- src/command.rt:163:5
 loop-holds : tie.Need-loop-holds Inv-loop μ-loop
 loop-holds c = search needs
 
--- src/command.rt:164:26
 add-row : tie.Need-add-row Inv-loop μ-loop
 add-row c = search needs
 
--- src/command.rt:164:18
 mul-row : tie.Need-mul-row Inv-loop μ-loop
 mul-row c = search needs
 
--- src/command.rt:164:18
 element-copy-out-row : tie.Need-element-copy-out-row Inv-loop μ-loop
 element-copy-out-row c = search needs
 
--- src/command.rt:164:9
 mul-row-2 : tie.Need-mul-row-2 Inv-loop μ-loop
 mul-row-2 c = search needs
 
--- src/command.rt:164:9
 slice-write-row : tie.Need-slice-write-row Inv-loop μ-loop
 slice-write-row c = search needs
 
--- src/command.rt:165:9
 add-i : tie.Need-add-i Inv-loop μ-loop
 add-i c = search needs
 
--- src/command.rt:163:5
 loop-less : tie.Need-loop-less Inv-loop μ-loop
 loop-less c = omega arith
 
--- src/command.rt:163:5
 loop-again : tie.Need-loop-again Inv-loop μ-loop
 loop-again c = (omega arith, simp length-set (omega arith), simp length-set (omega arith))
 
--- src/command.rt:159:1
 same-length : tie.Need-same-length Inv-loop μ-loop
 same-length c = search needs
 
--- src/command.rt:159:1
 returns : tie.Need-returns Inv-loop μ-loop
 returns c = search needs
 

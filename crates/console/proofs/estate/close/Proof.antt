@@ -1,12 +1,8 @@
-use mathlib.Core.Path.{_≡_}
+-- Each turn takes the next row of the queue, which has no more than 4096.
 use Prim.Native.Nat.{_≤_, _-_}
-use lib.ListN.{length}
 use borrow.Author.Needs.{needs}
 use Rattle.console.proofs.estate.close.Statement.{statement}
 use Rattle.console.proofs.estate.close.Tie as tie
-use Rattle.console.proofs.estate.close.Reads as reads
-use Rattle.console.proofs.estate.close.Lts as lts
-use Rattle.console.proofs.estate.bring.Reads as bring-reads
 
 abbrev Inv-loop : tie.InvT-loop
 Inv-loop table marks₀ queue₀ count entered₀ done₀ marks queue entered done = done ≤ 4096
@@ -14,39 +10,30 @@ Inv-loop table marks₀ queue₀ count entered₀ done₀ marks queue entered do
 abbrev μ-loop : tie.MeasureT-loop
 μ-loop table marks₀ queue₀ count entered₀ done₀ marks queue entered done = 4096 - done
 
--- src/estate.rt:120:5
 loop-holds : tie.Need-loop-holds Inv-loop μ-loop
 loop-holds c = search needs
 
--- src/estate.rt:121:19
 mul-row : tie.Need-mul-row Inv-loop μ-loop
 mul-row c = search needs
 
--- src/estate.rt:121:19
 element-copy-out-row : tie.Need-element-copy-out-row Inv-loop μ-loop
 element-copy-out-row c = search needs
 
--- src/estate.rt:122:9
 bring-requires : tie.Need-bring-requires Inv-loop μ-loop
 bring-requires c κs = search needs
 
--- src/estate.rt:123:9
 add-done : tie.Need-add-done Inv-loop μ-loop
 add-done c = search needs
 
--- src/estate.rt:120:5
 loop-less : tie.Need-loop-less Inv-loop μ-loop
 loop-less c = search needs
 
--- src/estate.rt:120:5
 loop-again : tie.Need-loop-again Inv-loop μ-loop
 loop-again c = search needs
 
--- src/estate.rt:117:1
 returns : tie.Need-returns Inv-loop μ-loop
 returns c = search needs
 
--- src/estate.rt:117:1
 returns-2 : tie.Need-returns-2 Inv-loop μ-loop
 returns-2 c = search needs
 

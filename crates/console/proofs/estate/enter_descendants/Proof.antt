@@ -1,15 +1,7 @@
-use mathlib.Core.Path.{_≡_}
-use Prim.Native.Nat.{_≤_, _-_}
-use lib.ListN.{length}
+-- The measure is what is left of the largest table's rows.
 use borrow.Author.Needs.{needs}
 use Rattle.console.proofs.estate.enter_descendants.Statement.{statement}
 use Rattle.console.proofs.estate.enter_descendants.Tie as tie
-use Rattle.console.proofs.estate.enter_descendants.Reads as reads
-use Rattle.console.proofs.estate.enter_descendants.Lts as lts
-use Rattle.console.proofs.estate.enter.Reads as enter-reads
-use Rattle.console.proofs.estate.index.Reads as index-reads
-use Rattle.console.proofs.estate.is_deeper.Reads as is-deeper-reads
-use Rattle.console.proofs.tree.next_row.Reads as next-row-reads
 
 abbrev Inv-loop : tie.InvT-loop
 Inv-loop table marks₀ queue₀ count row depth entered₀ at₀ left₀ marks queue entered at left = Unit {0}
@@ -17,47 +9,36 @@ Inv-loop table marks₀ queue₀ count row depth entered₀ at₀ left₀ marks 
 abbrev μ-loop : tie.MeasureT-loop
 μ-loop table marks₀ queue₀ count row depth entered₀ at₀ left₀ marks queue entered at left = left
 
--- src/estate.rt:68:9
 next-row-requires : tie.Need-next-row-requires Inv-loop μ-loop
 next-row-requires c κs = search needs
 
--- src/estate.rt:70:5
 loop-holds : tie.Need-loop-holds Inv-loop μ-loop
 loop-holds c = search needs
 
--- src/estate.rt:70:23
 is-deeper-requires : tie.Need-is-deeper-requires Inv-loop μ-loop
 is-deeper-requires c κs = search needs
 
--- src/estate.rt:71:48
 index-requires : tie.Need-index-requires Inv-loop μ-loop
 index-requires c κs = search needs
 
--- src/estate.rt:71:9
 enter-requires : tie.Need-enter-requires Inv-loop μ-loop
 enter-requires c κs = search needs
 
--- src/estate.rt:72:9
 next-row-requires-2 : tie.Need-next-row-requires-2 Inv-loop μ-loop
 next-row-requires-2 c κs = search needs
 
--- src/estate.rt:73:9
 sub-left : tie.Need-sub-left Inv-loop μ-loop
 sub-left c = search needs
 
--- src/estate.rt:70:5
 loop-less : tie.Need-loop-less Inv-loop μ-loop
 loop-less c = search needs
 
--- src/estate.rt:70:5
 loop-again : tie.Need-loop-again Inv-loop μ-loop
 loop-again c = search needs
 
--- src/estate.rt:66:1
 returns : tie.Need-returns Inv-loop μ-loop
 returns c = search needs
 
--- src/estate.rt:66:1
 returns-2 : tie.Need-returns-2 Inv-loop μ-loop
 returns-2 c = search needs
 

@@ -1,44 +1,50 @@
-use mathlib.Core.Path.{_≡_}
+-- The measure is what is left of the largest table's rows.
 use Prim.Native.Nat.{_≤_, _-_}
-use lib.ListN.{length}
 use borrow.Author.Needs.{needs}
 use Rattle.console.proofs.estate.enter_naming.Statement.{statement}
 use Rattle.console.proofs.estate.enter_naming.Tie as tie
-use Rattle.console.proofs.estate.enter_naming.Reads as reads
-use Rattle.console.proofs.estate.enter_naming.Lts as lts
-use Rattle.console.proofs.estate.enter_same.Reads as enter-same-reads
 
 abbrev Inv-loop : tie.InvT-loop
-Inv-loop table marks₀ queue₀ count cap entered₀ k₀ marks queue entered k = k ≤ 4096
+Inv-loop table marks₀ queue₀ count cap rows entered₀ k₀ marks queue entered k = k ≤ 4096
 
 abbrev μ-loop : tie.MeasureT-loop
-μ-loop table marks₀ queue₀ count cap entered₀ k₀ marks queue entered k = 4096 - k
+μ-loop table marks₀ queue₀ count cap rows entered₀ k₀ marks queue entered k = 4096 - k
 
--- src/estate.rt:97:5
 loop-holds : tie.Need-loop-holds Inv-loop μ-loop
 loop-holds c = search needs
 
--- src/estate.rt:98:9
+index-requires : tie.Need-index-requires Inv-loop μ-loop
+index-requires c κs = search needs
+
 enter-same-requires : tie.Need-enter-same-requires Inv-loop μ-loop
 enter-same-requires c κs = search needs
 
--- src/estate.rt:99:9
 add-k : tie.Need-add-k Inv-loop μ-loop
 add-k c = search needs
 
--- src/estate.rt:97:5
 loop-less : tie.Need-loop-less Inv-loop μ-loop
 loop-less c = search needs
 
--- src/estate.rt:97:5
 loop-again : tie.Need-loop-again Inv-loop μ-loop
 loop-again c = search needs
 
--- src/estate.rt:94:1
 returns : tie.Need-returns Inv-loop μ-loop
 returns c = search needs
+
+returns-2 : tie.Need-returns-2 Inv-loop μ-loop
+returns-2 c = search needs
 
 pub enter-naming-spec : {M : Type 1} → statement M
 enter-naming-spec =
     tie.close
-    (tie.spec Inv-loop μ-loop loop-holds enter-same-requires add-k loop-less loop-again returns)
+    (tie.spec
+    Inv-loop
+    μ-loop
+    loop-holds
+    index-requires
+    enter-same-requires
+    add-k
+    loop-less
+    loop-again
+    returns
+    returns-2)

@@ -1,12 +1,8 @@
-use mathlib.Core.Path.{_≡_}
+-- Each turn is at the next row of the run.
 use Prim.Native.Nat.{_≤_, _-_}
-use lib.ListN.{length}
 use borrow.Author.Needs.{needs}
 use Rattle.console.proofs.estate.enter_run.Statement.{statement}
 use Rattle.console.proofs.estate.enter_run.Tie as tie
-use Rattle.console.proofs.estate.enter_run.Reads as reads
-use Rattle.console.proofs.estate.enter_run.Lts as lts
-use Rattle.console.proofs.estate.enter.Reads as enter-reads
 
 abbrev Inv-loop : tie.InvT-loop
 Inv-loop marks₀ queue₀ count first n entered₀ i₀ marks queue entered i = i ≤ n
@@ -14,35 +10,27 @@ Inv-loop marks₀ queue₀ count first n entered₀ i₀ marks queue entered i =
 abbrev μ-loop : tie.MeasureT-loop
 μ-loop marks₀ queue₀ count first n entered₀ i₀ marks queue entered i = n - i
 
--- src/estate.rt:31:5
 loop-holds : tie.Need-loop-holds Inv-loop μ-loop
 loop-holds c = search needs
 
--- src/estate.rt:32:34
 cast-k : tie.Need-cast-k Inv-loop μ-loop
 cast-k c = search needs
 
--- src/estate.rt:32:17
 add-k : tie.Need-add-k Inv-loop μ-loop
 add-k c = search needs
 
--- src/estate.rt:33:9
 enter-requires : tie.Need-enter-requires Inv-loop μ-loop
 enter-requires c κs = search needs
 
--- src/estate.rt:34:9
 add-i : tie.Need-add-i Inv-loop μ-loop
 add-i c = search needs
 
--- src/estate.rt:31:5
 loop-less : tie.Need-loop-less Inv-loop μ-loop
 loop-less c = search needs
 
--- src/estate.rt:31:5
 loop-again : tie.Need-loop-again Inv-loop μ-loop
 loop-again c = search needs
 
--- src/estate.rt:28:1
 returns : tie.Need-returns Inv-loop μ-loop
 returns c = search needs
 

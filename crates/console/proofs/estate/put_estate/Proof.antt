@@ -1,17 +1,10 @@
+-- The buffer keeps its length, and each turn is at the next row.
 use mathlib.Core.Path.{_≡_}
 use Prim.Native.Nat.{_≤_, _-_}
 use lib.ListN.{length}
 use borrow.Author.Needs.{needs}
 use Rattle.console.proofs.estate.put_estate.Statement.{statement}
 use Rattle.console.proofs.estate.put_estate.Tie as tie
-use Rattle.console.proofs.estate.put_estate.Reads as reads
-use Rattle.console.proofs.estate.put_estate.Lts as lts
-use Rattle.console.proofs.estate.close.Reads as close-reads
-use Rattle.console.proofs.estate.enter.Reads as enter-reads
-use Rattle.console.proofs.estate.index.Reads as index-reads
-use Rattle.console.proofs.estate.put_marked.Reads as put-marked-reads
-use Rattle.console.proofs.output.put_byte.Reads as put-byte-reads
-use Rattle.console.proofs.output.put_text.Reads as put-text-reads
 
 abbrev Inv-loop : tie.InvT-loop
 Inv-loop table out₀ row marks count p₀ k₀ out p k = (k ≤ 4096) × (length out ≡ length out₀)
@@ -19,55 +12,42 @@ Inv-loop table out₀ row marks count p₀ k₀ out p k = (k ≤ 4096) × (lengt
 abbrev μ-loop : tie.MeasureT-loop
 μ-loop table out₀ row marks count p₀ k₀ out p k = 4096 - k
 
--- src/estate.rt:147:50
 index-requires : tie.Need-index-requires Inv-loop μ-loop
 index-requires c κs = search needs
 
--- src/estate.rt:147:9
 enter-requires : tie.Need-enter-requires Inv-loop μ-loop
 enter-requires c κs = search needs
 
--- src/estate.rt:148:5
 close-requires : tie.Need-close-requires Inv-loop μ-loop
 close-requires c κs = search needs
 
--- src/estate.rt:149:36
 slice-aggregate-put-text : tie.Need-slice-aggregate-put-text Inv-loop μ-loop
 slice-aggregate-put-text c = search needs
 
--- src/estate.rt:149:9
 put-text-requires : tie.Need-put-text-requires Inv-loop μ-loop
 put-text-requires c κs = search needs
 
--- src/estate.rt:151:5
 loop-holds : tie.Need-loop-holds Inv-loop μ-loop
 loop-holds c = search needs
 
--- src/estate.rt:152:9
 put-marked-requires : tie.Need-put-marked-requires Inv-loop μ-loop
 put-marked-requires c κs = search needs
 
--- src/estate.rt:153:9
 add-k : tie.Need-add-k Inv-loop μ-loop
 add-k c = search needs
 
--- src/estate.rt:151:5
 loop-less : tie.Need-loop-less Inv-loop μ-loop
 loop-less c = search needs
 
--- src/estate.rt:151:5
 loop-again : tie.Need-loop-again Inv-loop μ-loop
 loop-again c = search needs
 
--- src/estate.rt:155:5
 put-byte-requires : tie.Need-put-byte-requires Inv-loop μ-loop
 put-byte-requires c κs = search needs
 
--- src/estate.rt:144:1
 same-length : tie.Need-same-length Inv-loop μ-loop
 same-length c = search needs
 
--- src/estate.rt:144:1
 returns : tie.Need-returns Inv-loop μ-loop
 returns c = search needs
 

@@ -4,41 +4,31 @@ use Rattle.console.specs.Decimal.{withByte}
 use borrow.Author.Needs.{needs}
 use Rattle.console.proofs.line.with_byte.Statement.{statement}
 use Rattle.console.proofs.line.with_byte.Tie as tie
-use Rattle.console.proofs.line.with_byte.Reads as reads
-use Rattle.console.proofs.line.with_byte.Lts as lts
 
--- src/line.rt:73:9
 returns : tie.Need-returns
 unfolding withByte
 returns c = simp (lt-leb _ _ (c .if1 .taken))
 
--- src/line.rt:76:9
 returns-2 : tie.Need-returns-2
 unfolding withByte
 returns-2 c = simp (le-leb _ _ (c .before .if1 .left), lt-leb _ _ (c .if2 .taken))
 
--- src/line.rt:78:18
 mul-longer : tie.Need-mul-longer
 mul-longer c = search needs
 
--- src/line.rt:78:38
 cast-longer : tie.Need-cast-longer
 cast-longer c = search needs
 
--- src/line.rt:78:18
 add-longer : tie.Need-add-longer
 add-longer c = search needs
 
--- src/line.rt:80:32
 cast-t9 : tie.Need-cast-t9
 cast-t9 c = search needs
 
--- src/line.rt:80:9
 returns-3 : tie.Need-returns-3
 unfolding withByte
 returns-3 c = simp (le-leb _ _ (c .before .before .if1 .left), le-leb _ _ (c .before .if2 .left), lt-ltb _ _ (c .if3 .taken))
 
--- src/line.rt:69:1
 returns-4 : tie.Need-returns-4
 unfolding withByte
 returns-4 c = simp (le-leb _ _ (c .before .before .if1 .left), le-leb _ _ (c .before .if2 .left), le-ltb _ _ (c .if3 .left))

@@ -1,14 +1,10 @@
+-- The buffer keeps its length, and each turn puts the next number.
 use mathlib.Core.Path.{_≡_}
 use Prim.Native.Nat.{_≤_, _-_}
 use lib.ListN.{length}
 use borrow.Author.Needs.{needs}
 use Rattle.console.proofs.output.put_numbers.Statement.{statement}
 use Rattle.console.proofs.output.put_numbers.Tie as tie
-use Rattle.console.proofs.output.put_numbers.Reads as reads
-use Rattle.console.proofs.output.put_numbers.Lts as lts
-use Rattle.console.proofs.output.put_byte.Reads as put-byte-reads
-use Rattle.console.proofs.output.put_number.Reads as put-number-reads
-use Rattle.console.proofs.output.wide.Reads as wide-reads
 
 abbrev Inv-loop : tie.InvT-loop
 Inv-loop out₀ numbers p₀ i₀ out p i = (i ≤ length numbers) × (length out ≡ length out₀)
@@ -16,47 +12,36 @@ Inv-loop out₀ numbers p₀ i₀ out p i = (i ≤ length numbers) × (length ou
 abbrev μ-loop : tie.MeasureT-loop
 μ-loop out₀ numbers p₀ i₀ out p i = length numbers - i
 
--- src/output.rt:64:5
 loop-holds : tie.Need-loop-holds Inv-loop μ-loop
 loop-holds c = search needs
 
--- src/output.rt:65:9
 put-byte-requires : tie.Need-put-byte-requires Inv-loop μ-loop
 put-byte-requires c κs = search needs
 
--- src/output.rt:66:37
 mul-wide : tie.Need-mul-wide Inv-loop μ-loop
 mul-wide c = search needs
 
--- src/output.rt:66:37
 shared-slice-read-wide : tie.Need-shared-slice-read-wide Inv-loop μ-loop
 shared-slice-read-wide c = search needs
 
--- src/output.rt:66:32
 wide-requires : tie.Need-wide-requires Inv-loop μ-loop
 wide-requires c κs = search needs
 
--- src/output.rt:66:9
 put-number-requires : tie.Need-put-number-requires Inv-loop μ-loop
 put-number-requires c κs = search needs
 
--- src/output.rt:67:9
 add-i : tie.Need-add-i Inv-loop μ-loop
 add-i c = search needs
 
--- src/output.rt:64:5
 loop-less : tie.Need-loop-less Inv-loop μ-loop
 loop-less c = search needs
 
--- src/output.rt:64:5
 loop-again : tie.Need-loop-again Inv-loop μ-loop
 loop-again c = search needs
 
--- src/output.rt:61:1
 same-length : tie.Need-same-length Inv-loop μ-loop
 same-length c = search needs
 
--- src/output.rt:61:1
 returns : tie.Need-returns Inv-loop μ-loop
 returns c = search needs
 

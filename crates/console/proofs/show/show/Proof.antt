@@ -1,15 +1,10 @@
+-- The buffer keeps its length, and each turn shows the next row.
 use mathlib.Core.Path.{_≡_}
-use Prim.Native.Nat.{_≤_, _-_}
+use Prim.Native.Nat.{_-_}
 use lib.ListN.{length}
 use borrow.Author.Needs.{needs}
 use Rattle.console.proofs.show.show.Statement.{statement}
 use Rattle.console.proofs.show.show.Tie as tie
-use Rattle.console.proofs.show.show.Reads as reads
-use Rattle.console.proofs.show.show.Lts as lts
-use Rattle.console.proofs.output.put_byte.Reads as put-byte-reads
-use Rattle.console.proofs.output.put_numbers.Reads as put-numbers-reads
-use Rattle.console.proofs.output.put_text.Reads as put-text-reads
-use Rattle.console.proofs.show.show_row.Reads as show-row-reads
 
 abbrev Inv-loop : tie.InvT-loop
 Inv-loop table control out₀ p₀ rows k₀ t9 out p k = length out ≡ length out₀
@@ -17,55 +12,42 @@ Inv-loop table control out₀ p₀ rows k₀ t9 out p k = length out ≡ length 
 abbrev μ-loop : tie.MeasureT-loop
 μ-loop table control out₀ p₀ rows k₀ t9 out p k = rows - k
 
--- src/show.rt:47:36
 slice-aggregate-put-text : tie.Need-slice-aggregate-put-text Inv-loop μ-loop
 slice-aggregate-put-text c = search needs
 
--- src/show.rt:47:9
 put-text-requires : tie.Need-put-text-requires Inv-loop μ-loop
 put-text-requires c κs = search needs
 
--- src/show.rt:48:5
 put-numbers-requires : tie.Need-put-numbers-requires Inv-loop μ-loop
 put-numbers-requires c κs = search needs
 
--- src/show.rt:49:5
 put-byte-requires : tie.Need-put-byte-requires Inv-loop μ-loop
 put-byte-requires c κs = search needs
 
--- src/show.rt:52:5
 loop-holds : tie.Need-loop-holds Inv-loop μ-loop
 loop-holds c = search needs
 
--- src/show.rt:53:9
 show-row-requires : tie.Need-show-row-requires Inv-loop μ-loop
 show-row-requires c κs = search needs
 
--- src/show.rt:54:9
 add-k : tie.Need-add-k Inv-loop μ-loop
 add-k c = search needs
 
--- src/show.rt:52:5
 loop-less : tie.Need-loop-less Inv-loop μ-loop
 loop-less c = search needs
 
--- src/show.rt:52:5
 loop-again : tie.Need-loop-again Inv-loop μ-loop
 loop-again c = search needs
 
--- src/show.rt:56:22
 slice-aggregate-put-text-2 : tie.Need-slice-aggregate-put-text-2 Inv-loop μ-loop
 slice-aggregate-put-text-2 c = search needs
 
--- src/show.rt:56:5
 put-text-requires-2 : tie.Need-put-text-requires-2 Inv-loop μ-loop
 put-text-requires-2 c κs = search needs
 
--- src/show.rt:46:1
 same-length : tie.Need-same-length Inv-loop μ-loop
 same-length c = search needs
 
--- src/show.rt:46:1
 returns : tie.Need-returns Inv-loop μ-loop
 returns c = search needs
 

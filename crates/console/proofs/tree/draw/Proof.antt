@@ -1,14 +1,9 @@
+-- The buffer keeps its length. The measure is the number of rows that are left.
 use mathlib.Core.Path.{_≡_}
-use Prim.Native.Nat.{_≤_, _-_}
 use lib.ListN.{length}
 use borrow.Author.Needs.{needs}
 use Rattle.console.proofs.tree.draw.Statement.{statement}
 use Rattle.console.proofs.tree.draw.Tie as tie
-use Rattle.console.proofs.tree.draw.Reads as reads
-use Rattle.console.proofs.tree.draw.Lts as lts
-use Rattle.console.proofs.output.put_text.Reads as put-text-reads
-use Rattle.console.proofs.tree.draw_row.Reads as draw-row-reads
-use Rattle.console.proofs.tree.next_row.Reads as next-row-reads
 
 abbrev Inv-loop : tie.InvT-loop
 Inv-loop table head count out₀ p₀ row₀ left₀ t9 out p row left = length out ≡ length out₀
@@ -16,43 +11,33 @@ Inv-loop table head count out₀ p₀ row₀ left₀ t9 out p row left = length 
 abbrev μ-loop : tie.MeasureT-loop
 μ-loop table head count out₀ p₀ row₀ left₀ t9 out p row left = left
 
--- src/tree.rt:121:5
 loop-holds : tie.Need-loop-holds Inv-loop μ-loop
 loop-holds c = search needs
 
--- src/tree.rt:122:9
 draw-row-requires : tie.Need-draw-row-requires Inv-loop μ-loop
 draw-row-requires c κs = search needs
 
--- src/tree.rt:123:9
 next-row-requires : tie.Need-next-row-requires Inv-loop μ-loop
 next-row-requires c κs = search needs
 
--- src/tree.rt:124:9
 sub-left : tie.Need-sub-left Inv-loop μ-loop
 sub-left c = search needs
 
--- src/tree.rt:121:5
 loop-less : tie.Need-loop-less Inv-loop μ-loop
 loop-less c = search needs
 
--- src/tree.rt:121:5
 loop-again : tie.Need-loop-again Inv-loop μ-loop
 loop-again c = search needs
 
--- src/tree.rt:126:22
 slice-aggregate-put-text : tie.Need-slice-aggregate-put-text Inv-loop μ-loop
 slice-aggregate-put-text c = search needs
 
--- src/tree.rt:126:5
 put-text-requires : tie.Need-put-text-requires Inv-loop μ-loop
 put-text-requires c κs = search needs
 
--- src/tree.rt:117:1
 same-length : tie.Need-same-length Inv-loop μ-loop
 same-length c = search needs
 
--- src/tree.rt:117:1
 returns : tie.Need-returns Inv-loop μ-loop
 returns c = search needs
 

@@ -1,12 +1,9 @@
+-- The buffer keeps its length. The measure is the depth that is left.
 use mathlib.Core.Path.{_≡_}
-use Prim.Native.Nat.{_≤_, _-_}
 use lib.ListN.{length}
 use borrow.Author.Needs.{needs}
 use Rattle.console.proofs.tree.put_indent.Statement.{statement}
 use Rattle.console.proofs.tree.put_indent.Tie as tie
-use Rattle.console.proofs.tree.put_indent.Reads as reads
-use Rattle.console.proofs.tree.put_indent.Lts as lts
-use Rattle.console.proofs.output.put_text.Reads as put-text-reads
 
 abbrev Inv-loop : tie.InvT-loop
 Inv-loop out₀ depth p₀ left₀ t6 out p left = length out ≡ length out₀
@@ -14,35 +11,27 @@ Inv-loop out₀ depth p₀ left₀ t6 out p left = length out ≡ length out₀
 abbrev μ-loop : tie.MeasureT-loop
 μ-loop out₀ depth p₀ left₀ t6 out p left = left
 
--- src/tree.rt:29:5
 loop-holds : tie.Need-loop-holds Inv-loop μ-loop
 loop-holds c = search needs
 
--- src/tree.rt:30:30
 slice-aggregate-put-text : tie.Need-slice-aggregate-put-text Inv-loop μ-loop
 slice-aggregate-put-text c = search needs
 
--- src/tree.rt:30:9
 put-text-requires : tie.Need-put-text-requires Inv-loop μ-loop
 put-text-requires c κs = search needs
 
--- src/tree.rt:31:9
 sub-left : tie.Need-sub-left Inv-loop μ-loop
 sub-left c = search needs
 
--- src/tree.rt:29:5
 loop-less : tie.Need-loop-less Inv-loop μ-loop
 loop-less c = search needs
 
--- src/tree.rt:29:5
 loop-again : tie.Need-loop-again Inv-loop μ-loop
 loop-again c = search needs
 
--- src/tree.rt:26:1
 same-length : tie.Need-same-length Inv-loop μ-loop
 same-length c = search needs
 
--- src/tree.rt:26:1
 returns : tie.Need-returns Inv-loop μ-loop
 returns c = search needs
 
