@@ -5,8 +5,12 @@ use crate::output::put_byte;
 use crate::output::put_number;
 use crate::output::put_text;
 use crate::tree::next_row;
+use model::CNODE;
 use model::Cap;
+use model::EMPTY;
 use model::Row;
+use model::UNTYPED;
+use table::caps::same_object;
 
 // A row's number as an index.
 fn index(row: u32) -> usize {
@@ -51,7 +55,7 @@ fn enter_run(
 fn enter_slots(marks: &mut [bool; 4096], queue: &mut [u32; 4096], count: usize, cap: Cap) -> usize {
     let first = cap.address.0 >> 4;
     let radix = cap.size;
-    if 5 == cap.kind {
+    if cap.kind == CNODE {
         if radix <= 12 {
             return enter_run(marks, queue, count, first, 1u32 << radix);
         }
@@ -90,7 +94,7 @@ fn enter_descendants(
 
 // Two capabilities name the same typed object.
 fn same_typed(a: Cap, b: Cap) -> bool {
-    a.kind == b.kind && a.kind != 1 && a.address.0 == b.address.0 && a.size == b.size
+    a.kind != UNTYPED && same_object(a, b)
 }
 
 // Row k enters if it names the typed object of a capability.
@@ -142,7 +146,7 @@ fn bring(
         return count;
     }
     let cap = table::cap_at(table, Row(row));
-    if cap.kind == 0 {
+    if cap.kind == EMPTY {
         return count;
     }
     let depth = table::word(table, Row(row), 7);

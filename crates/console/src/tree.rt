@@ -3,8 +3,13 @@ use crate::output::Pen;
 use crate::output::put_byte;
 use crate::output::put_number;
 use crate::output::put_text;
+use model::CNODE;
 use model::Cap;
+use model::ENDPOINT;
+use model::NOTIFICATION;
 use model::Row;
+use model::TCB;
+use model::UNTYPED;
 
 // The row after a row in the list; a row out of the table is its own.
 pub fn next_row(table: &[u32], row: u32) -> u32 {
@@ -35,11 +40,11 @@ fn put_named(out: &mut [u8], pen: Pen, name: &[u8], n: u32) -> Pen {
 // The name of a kind.
 fn put_kind(out: &mut [u8], pen: Pen, kind: u32) -> Pen {
     match kind {
-        1 => put_text(out, pen, b"Untyped"),
-        2 => put_text(out, pen, b"TCB"),
-        3 => put_text(out, pen, b"Endpoint"),
-        4 => put_text(out, pen, b"Notification"),
-        5 => put_text(out, pen, b"CNode"),
+        UNTYPED => put_text(out, pen, b"Untyped"),
+        TCB => put_text(out, pen, b"TCB"),
+        ENDPOINT => put_text(out, pen, b"Endpoint"),
+        NOTIFICATION => put_text(out, pen, b"Notification"),
+        CNODE => put_text(out, pen, b"CNode"),
         _ => put_text(out, pen, b"Frame"),
     }
 }
@@ -72,16 +77,16 @@ fn put_bytes(out: &mut [u8], pen: Pen, size: u32) -> Pen {
 fn put_details(out: &mut [u8], pen: Pen, cap: Cap) -> Pen {
     let kind = cap.kind;
     match kind {
-        1 => {
+        UNTYPED => {
             let p = put_bytes(out, pen, cap.size);
             put_named(out, p, b" watermark ", cap.third)
         }
-        2 => pen,
-        3 | 4 => {
+        TCB => pen,
+        ENDPOINT | NOTIFICATION => {
             let p = put_named(out, pen, b" badge ", cap.third);
             put_rights(out, p, cap.fourth)
         }
-        5 => {
+        CNODE => {
             let mut p = put_named(out, pen, b" radix ", cap.size);
             p = put_named(out, p, b" guard ", cap.third);
             put_named(out, p, b" size ", cap.fourth)

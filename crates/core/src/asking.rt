@@ -8,6 +8,7 @@ use lookup::named;
 use model::Address;
 use model::Answer;
 use model::Cap;
+use model::EMPTY;
 use model::Place;
 use model::Retyping;
 use model::Row;
@@ -61,7 +62,7 @@ pub fn asked(table: &[u32], caller: u32, message: &[u32]) -> Found
         return found;
     };
     let service = cap_at(table, row);
-    if service.kind == 0 {
+    if service.kind == EMPTY {
         return Found::Refused(Answer::InvalidCapability);
     }
     let operation = operation_of(word_at(message, 0));

@@ -1,15 +1,17 @@
 // The tables of a fresh host, word by word.
+use model::CNODE;
+use model::NONE;
+use model::UNTYPED;
 ghost use mathlib.Core.Path.{_≡_};
 ghost use Prim.Native.Nat.{_*_, _≤_, _<_};
 ghost use lib.ListN.{getD, length};
 ghost use Rattle.model.specs.Edition.{edition32};
 ghost use Rattle.model.specs.Lists as lists;
 ghost use Rattle.model.specs.Tables as tables;
+ghost use Rattle.model.specs.Tables.{lent};
 ghost use Rattle.model.specs.Rules as rules;
 ghost use Rattle.model.proofs.Words.Rows.{rowAt};
 ghost use Rattle.core.specs.Booting.{Range, bootTable};
-
-const NONE: u32 = 4294967295;
 
 // A number lies in a range.
 pub fn within(least: u32, n: u32, greatest: u32) -> bool
@@ -29,7 +31,7 @@ fn table_words(m: u32) -> usize
 // The table has its length for an m, and there are four control words.
 pub fn lengths_fit(table: &[u32], control: &[u32], m: u32) -> bool
     requires { ⌜ (10 ≤ m) × (m ≤ 16) ⌝ }
-    ensures { λ r. ⌜ r ≡ rules.lengthsFit edition32 m (record { table = now (table .entry); control = now (control .entry) }) ⌝ }
+    ensures { λ r. ⌜ r ≡ rules.lengthsFit edition32 m (lent (now (table .entry)) (now (control .entry))) ⌝ }
 {
     table.len() == table_words(m) && control.len() == 4
 }
@@ -51,7 +53,7 @@ fn boot_row(m: u32, r: u32, k: u32) -> [u32; 8]
     ensures { λ w. ⌜ w ≡ rowAt (bootTable m r) k ⌝ }
 {
     if k == 0 {
-        return [5, 0, r, 0, 32 - r, 1, NONE, 0];
+        return [CNODE, 0, r, 0, 32 - r, 1, NONE, 0];
     }
     let last = m - r - 4;
     if last < k {
@@ -59,7 +61,7 @@ fn boot_row(m: u32, r: u32, k: u32) -> [u32; 8]
     }
     let size = r + 3 + k;
     let next = if k == last { NONE } else { k + 1 };
-    [1, 1 << size, size, 0, 0, next, k - 1, 0]
+    [UNTYPED, 1 << size, size, 0, 0, next, k - 1, 0]
 }
 
 // Word j of the table.

@@ -11,10 +11,11 @@ ghost use mathlib.Core.Path.{_≡_};
 ghost use mathlib.Core.List.{_∷_};
 ghost use Rattle.model.specs.Edition.{edition32};
 ghost use Rattle.model.specs.Request as spec;
+ghost use Rattle.model.specs.Tables.{lent};
 
 // Boot takes m and r.
 pub fn boot(table: &mut [u32], control: &mut [u32; 4], m: u32, r: u32) -> Answer
-    ensures { λ a. ⌜ record { answer = a; tables = record { table = now (table .exit); control = now (control .exit) } } ≡ spec.boot edition32 (record { table = now (table .entry); control = now (control .entry) }) m r ⌝ }
+    ensures { λ a. ⌜ record { answer = a; tables = lent (now (table .exit)) (now (control .exit)) } ≡ spec.boot edition32 (lent (now (table .entry)) (now (control .entry))) m r ⌝ }
 {
     if !booting::within(10, m, 16) {
         return Answer::RangeError {
@@ -39,7 +40,7 @@ pub fn boot(table: &mut [u32], control: &mut [u32; 4], m: u32, r: u32) -> Answer
 
 // Any tables and any message get an answer.
 pub fn request(table: &mut [u32], control: &mut [u32; 4], caller: u32, message: &[u32]) -> Answer
-    ensures { λ r. ⌜ record { answer = r; tables = record { table = now (table .exit); control = now (control .exit) } } ≡ spec.request edition32 (record { table = now (table .entry); control = now (control .entry) }) caller (now (message .entry)) ⌝ }
+    ensures { λ r. ⌜ record { answer = r; tables = lent (now (table .exit)) (now (control .exit)) } ≡ spec.request edition32 (lent (now (table .entry)) (now (control .entry))) caller (now (message .entry)) ⌝ }
 {
     if !rules::check(table, control) {
         return Answer::BadTables;

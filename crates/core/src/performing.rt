@@ -15,6 +15,7 @@ ghost use lib.ListN.{getD, length};
 ghost use Rattle.model.specs.Edition.{edition32};
 ghost use Rattle.model.specs.Cap as cap;
 ghost use Rattle.model.specs.Tables as tables;
+ghost use Rattle.model.specs.Tables.{lent};
 ghost use Rattle.model.specs.Tree as tree;
 ghost use Rattle.model.specs.Operations as ops;
 ghost use Rattle.model.specs.Request as spec;
@@ -30,8 +31,8 @@ pub fn copying(
     service: Row,
     how: Change,
 ) -> Answer
-    requires { ⌜ serving.Served (record { table = now table; control = now control }) (service .0) ⌝ }
-    ensures { λ r. ⌜ record { answer = r; tables = record { table = now (table .exit); control = now (control .exit) } } ≡ spec.carriedOut edition32 (record { table = now (table .entry); control = now (control .entry) }) (λ f. serving.twoPlaces (λ g d s. ops.copy edition32 g d s how) f caller (now (message .entry)) (service .0)) ⌝ }
+    requires { ⌜ serving.Served (lent (now table) (now control)) (service .0) ⌝ }
+    ensures { λ r. ⌜ record { answer = r; tables = lent (now (table .exit)) (now (control .exit)) } ≡ spec.carriedOut edition32 (lent (now (table .entry)) (now (control .entry))) (λ f. serving.twoPlaces (λ g d s. ops.copy edition32 g d s how) f caller (now (message .entry)) (service .0)) ⌝ }
 {
     let found = asking::row_named(table, caller, message, 4);
     match found {
@@ -53,8 +54,8 @@ pub fn moving(
     service: Row,
     how: Change,
 ) -> Answer
-    requires { ⌜ serving.Served (record { table = now table; control = now control }) (service .0) ⌝ }
-    ensures { λ r. ⌜ record { answer = r; tables = record { table = now (table .exit); control = now (control .exit) } } ≡ spec.carriedOut edition32 (record { table = now (table .entry); control = now (control .entry) }) (λ f. serving.twoPlaces (λ g d s. ops.move edition32 g d s how) f caller (now (message .entry)) (service .0)) ⌝ }
+    requires { ⌜ serving.Served (lent (now table) (now control)) (service .0) ⌝ }
+    ensures { λ r. ⌜ record { answer = r; tables = lent (now (table .exit)) (now (control .exit)) } ≡ spec.carriedOut edition32 (lent (now (table .entry)) (now (control .entry))) (λ f. serving.twoPlaces (λ g d s. ops.move edition32 g d s how) f caller (now (message .entry)) (service .0)) ⌝ }
 {
     let found = asking::row_named(table, caller, message, 4);
     match found {
@@ -69,8 +70,8 @@ pub fn moving(
 
 // Delete: the row that the message names.
 pub fn deleting(table: &mut [u32], control: &mut [u32; 4], message: &[u32], service: Row) -> Answer
-    requires { ⌜ serving.Served (record { table = now table; control = now control }) (service .0) ⌝ }
-    ensures { λ r. ⌜ record { answer = r; tables = record { table = now (table .exit); control = now (control .exit) } } ≡ spec.carriedOut edition32 (record { table = now (table .entry); control = now (control .entry) }) (λ f. ops.delete edition32 f (spec.place (tree.capAt f (service .0)) (now (message .entry)) 2 false)) ⌝ }
+    requires { ⌜ serving.Served (lent (now table) (now control)) (service .0) ⌝ }
+    ensures { λ r. ⌜ record { answer = r; tables = lent (now (table .exit)) (now (control .exit)) } ≡ spec.carriedOut edition32 (lent (now (table .entry)) (now (control .entry))) (λ f. ops.delete edition32 f (spec.place (tree.capAt f (service .0)) (now (message .entry)) 2 false)) ⌝ }
 {
     let target = asking::place(table, service, message, 2, false);
     let found = find(table, target);
@@ -84,8 +85,8 @@ pub fn deleting(table: &mut [u32], control: &mut [u32; 4], message: &[u32], serv
 
 // Revoke.
 pub fn revoking(table: &mut [u32], control: &mut [u32; 4], message: &[u32], service: Row) -> Answer
-    requires { ⌜ serving.Served (record { table = now table; control = now control }) (service .0) ⌝ }
-    ensures { λ r. ⌜ record { answer = r; tables = record { table = now (table .exit); control = now (control .exit) } } ≡ spec.carriedOut edition32 (record { table = now (table .entry); control = now (control .entry) }) (λ f. ops.revoke edition32 f (spec.place (tree.capAt f (service .0)) (now (message .entry)) 2 false)) ⌝ }
+    requires { ⌜ serving.Served (lent (now table) (now control)) (service .0) ⌝ }
+    ensures { λ r. ⌜ record { answer = r; tables = lent (now (table .exit)) (now (control .exit)) } ≡ spec.carriedOut edition32 (lent (now (table .entry)) (now (control .entry))) (λ f. ops.revoke edition32 f (spec.place (tree.capAt f (service .0)) (now (message .entry)) 2 false)) ⌝ }
 {
     let target = asking::place(table, service, message, 2, false);
     let found = find(table, target);
@@ -105,8 +106,8 @@ pub fn retyping(
     message: &[u32],
     service: Row,
 ) -> Answer
-    requires { ⌜ serving.Served (record { table = now table; control = now control }) (service .0) ⌝ ∗ ⌜ cap.isUntyped (tables.capOf (now table) (service .0)) ≡ true ⌝ }
-    ensures { λ r. ⌜ record { answer = r; tables = record { table = now (table .exit); control = now (control .exit) } } ≡ spec.carriedOut edition32 (record { table = now (table .entry); control = now (control .entry) }) (λ f. spec.perform edition32 f caller (now (message .entry)) (service .0) operations.Retype) ⌝ }
+    requires { ⌜ serving.Served (lent (now table) (now control)) (service .0) ⌝ ∗ ⌜ cap.isUntyped (tables.capOf (now table) (service .0)) ≡ true ⌝ }
+    ensures { λ r. ⌜ record { answer = r; tables = lent (now (table .exit)) (now (control .exit)) } ≡ spec.carriedOut edition32 (lent (now (table .entry)) (now (control .entry))) (λ f. spec.perform edition32 f caller (now (message .entry)) (service .0) operations.Retype) ⌝ }
 {
     let found = asking::row_named(table, caller, message, 4);
     match found {
@@ -127,8 +128,8 @@ fn rotating_from(
     service: Row,
     pivot_root: Row,
 ) -> Answer
-    requires { ⌜ serving.Served (record { table = now table; control = now control }) (service .0) ⌝ ∗ ⌜ «pivot_root» .0 * 8 + 8 ≤ length (now table) ⌝ }
-    ensures { λ r. ⌜ record { answer = r; tables = record { table = now (table .exit); control = now (control .exit) } } ≡ spec.carriedOut edition32 (record { table = now (table .entry); control = now (control .entry) }) (λ f. serving.turnedFrom f caller (now (message .entry)) (service .0) («pivot_root» .0)) ⌝ }
+    requires { ⌜ serving.Served (lent (now table) (now control)) (service .0) ⌝ ∗ ⌜ «pivot_root» .0 * 8 + 8 ≤ length (now table) ⌝ }
+    ensures { λ r. ⌜ record { answer = r; tables = lent (now (table .exit)) (now (control .exit)) } ≡ spec.carriedOut edition32 (lent (now (table .entry)) (now (control .entry))) (λ f. serving.turnedFrom f caller (now (message .entry)) (service .0) («pivot_root» .0)) ⌝ }
 {
     let found = asking::row_named(table, caller, message, 9);
     match found {
@@ -152,8 +153,8 @@ pub fn rotating(
     message: &[u32],
     service: Row,
 ) -> Answer
-    requires { ⌜ serving.Served (record { table = now table; control = now control }) (service .0) ⌝ }
-    ensures { λ r. ⌜ record { answer = r; tables = record { table = now (table .exit); control = now (control .exit) } } ≡ spec.carriedOut edition32 (record { table = now (table .entry); control = now (control .entry) }) (λ f. spec.perform edition32 f caller (now (message .entry)) (service .0) operations.Rotate) ⌝ }
+    requires { ⌜ serving.Served (lent (now table) (now control)) (service .0) ⌝ }
+    ensures { λ r. ⌜ record { answer = r; tables = lent (now (table .exit)) (now (control .exit)) } ≡ spec.carriedOut edition32 (lent (now (table .entry)) (now (control .entry))) (λ f. spec.perform edition32 f caller (now (message .entry)) (service .0) operations.Rotate) ⌝ }
 {
     let found = asking::row_named(table, caller, message, 5);
     match found {
@@ -170,8 +171,8 @@ pub fn perform(
     message: &[u32],
     service: Row,
 ) -> Answer
-    requires { ⌜ serving.Served (record { table = now table; control = now control }) (service .0) ⌝ ∗ ⌜ spec.invokes (tables.capOf (now table) (service .0)) (spec.operationOf (getD (now message) 0 0)) ≡ true ⌝ }
-    ensures { λ r. ⌜ record { answer = r; tables = record { table = now (table .exit); control = now (control .exit) } } ≡ spec.carriedOut edition32 (record { table = now (table .entry); control = now (control .entry) }) (λ f. spec.perform edition32 f caller (now (message .entry)) (service .0) (spec.operationOf (getD (now (message .entry)) 0 0))) ⌝ }
+    requires { ⌜ serving.Served (lent (now table) (now control)) (service .0) ⌝ ∗ ⌜ spec.invokes (tables.capOf (now table) (service .0)) (spec.operationOf (getD (now message) 0 0)) ≡ true ⌝ }
+    ensures { λ r. ⌜ record { answer = r; tables = lent (now (table .exit)) (now (control .exit)) } ≡ spec.carriedOut edition32 (lent (now (table .entry)) (now (control .entry))) (λ f. spec.perform edition32 f caller (now (message .entry)) (service .0) (spec.operationOf (getD (now (message .entry)) 0 0))) ⌝ }
 {
     let operation = operation_of(word_at(message, 0));
     match operation {

@@ -1,11 +1,11 @@
 // The lookup of a capability address in a lent slot table.
 use model::Answer;
+use model::CNODE;
 use model::Cap;
 use model::Failure;
 use model::Looked;
 use model::Place;
 use model::Row;
-use table::CNODE;
 use table::cap_at;
 use table::row_of;
 use table::size::pow2;

@@ -13,6 +13,9 @@ pub record Tables : Type 0 where
   pub table : List ℕ
   pub control : List ℕ
 
+abbrev pub lent : (table control : List ℕ) → Tables
+lent table control = record { table = table; control = control }
+
 -- what they stand for: m, r and the derivation tree
 pub record State : Type 0 where
   pub m : ℕ

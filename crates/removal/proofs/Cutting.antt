@@ -1,7 +1,7 @@
--- One row that names no CNode, or none at all: what Delete then leaves of the tables.
+-- A row that goes alone, or none at all: what Delete then leaves of the tables.
 use Prim.Native.Nat.{ℕ, pred, _-_, _<_}
 use mathlib.Core.Path.{_≡_, refl, sym, ap, _∙_, subst}
-use mathlib.Core.Bool.{true, false, cond, true≢false}
+use mathlib.Core.Bool.{true, false, cond}
 use mathlib.Core.List.{List, [], _∷_, List·Memᴰ·head, List·Memᴰ·eq-of-singleton}
 use native.Mathlib.Omega.{arith}
 use native.Mathlib.Numerals.{sub-one}
@@ -10,10 +10,10 @@ use lib.ListN.{getD, length, set}
 use Rattle.model.specs.declared.Cap.{Cap}
 use Rattle.model.specs.Edition.{edition32}
 use Rattle.model.specs.Lists.{any, member}
-use Rattle.model.specs.Cap.{isEmpty, isCNode, houses}
-use Rattle.model.specs.Tree.{Forest, end, tree, entries, capAt, stays, goes, edit, put, leaves, without}
+use Rattle.model.specs.Cap.{isEmpty, isCNode, sameObject, houses}
+use Rattle.model.specs.Tree.{Entry, Forest, end, tree, entries, capAt, stays, goes, edit, put, leaves, without}
 use Rattle.model.specs.Stores.{unlinked}
-use Rattle.model.specs.Tables.{Tables, rows, word, listing, read, write}
+use Rattle.model.specs.Tables.{Tables, rows, word, capOf, listing, read, write}
 use Rattle.model.specs.Rules.{wellFormed}
 use Rattle.model.specs.Removal.{removed}
 use Rattle.model.specs.Operations.{remove}
@@ -27,14 +27,16 @@ use Rattle.model.proofs.Words.Edited.{listedUnder}
 use Rattle.model.proofs.Words.Runs.{raisedRun}
 use Rattle.model.proofs.Words.Removed.{write-removed}
 use Rattle.model.proofs.Kept.Edits.{entries-without}
-use Rattle.model.proofs.Kept.Objects.{same-refl}
+use Rattle.model.proofs.Kept.Objects.{same-refl, same-parts, same-empty}
 use Rattle.model.proofs.Kept.Removal.{Swept, removed-none, removed-start}
 use Rattle.model.proofs.Kept.Rules.{known, entry-at}
 use Rattle.model.proofs.Removal.Counted.{removed-is, removed-count}
-use Rattle.removal.specs.Removing.{target, withoutRow, Removes}
-use Rattle.removal.proofs.Tables.{entries-long}
-use Rattle.removal.proofs.Nodes.{sound}
+use Rattle.removal.specs.Marking.{rowCount}
+use Rattle.removal.specs.Removing.{target, withoutRow, Removes, goesAlone}
+use Rattle.removal.proofs.Tables.{entries-long, rowsOfTables}
+use Rattle.removal.proofs.Nodes.{sound, caps, row-count}
 use Rattle.removal.proofs.Descent.{place, some-row}
+use Rattle.removal.proofs.Elsewhere.{elsewhere}
 
 edit-none : (f : Forest) → edit (without []) f ≡ f
 unfolding edit without put leaves member any
@@ -78,7 +80,7 @@ module _ (t : Tables) (well : wellFormed edition32 t ≡ true) (k : ℕ) where
         tables = sym same-tables ∙ ap (λ (g : Forest). write edition32 (record { m = read edition32 t .m; r = read edition32 t .r; forest = g })) (sym (ap (λ (ks : List ℕ). edit (without ks) f) (removed-none edition32 (entries f)) ∙ edit-none f));
       })
 
-  module _ (there : isEmpty (capAt f k) ≡ false) (plain : isCNode (capAt f k) ≡ false) where
+  module _ (there : isEmpty (capAt f k) ≡ false) (lone : goesAlone (capOf (t .table)) k (rowCount (t .table)) ≡ true) where
     abbrev R : List ℕ
     R = removed edition32 (entries f) (k ∷ [])
 
@@ -86,10 +88,19 @@ module _ (t : Tables) (well : wellFormed edition32 t ≡ true) (k : ℕ) where
     unfolding houses
     node-of c j h = and-left _ _ (and-left _ _ h)
 
+    -- another entry that names the same object
+    entry-of : (j : ℕ) → (j ≡ k → ⊥) → sameObject (capAt f k) (capAt f j) ≡ true → (e : Entry) × Has e (entries f) × (e .row ≡ k → ⊥) × (sameObject (capAt f k) (e .cap) ≡ true)
+    entry-of j other same =
+        let (e, me, r, c) = entry-at (sound t well) j (sym (same-empty (same-parts _ _ same)) ∙ there) in
+        (e, me, λ q. other (sym r ∙ q), rw c at same)
+
     alone : Swept edition32 (entries f) (λ j. member j (k ∷ []) ≡ true)
     alone n e mn me h names =
-        let r : n .row ≡ k = List·Memᴰ·eq-of-singleton (member-has (n .row) (k ∷ []) (names n mn (same-refl (n .cap)))) in
-        absurd (true≢false (sym (node-of (n .cap) (e .row) h) ∙ ap isCNode (sym (known (sound t well) mn) ∙ ap (capAt f) r) ∙ plain))
+        let only : (d : Entry) → Has d (entries f) → sameObject (n .cap) (d .cap) ≡ true → d .row ≡ k = λ d md same. List·Memᴰ·eq-of-singleton (member-has (d .row) (k ∷ []) (names d md same)) in
+        let c : capAt f k ≡ n .cap = ap (capAt f) (sym (only n mn (same-refl (n .cap)))) ∙ known (sound t well) mn in
+        let (j, l, j-other, j-same) = elsewhere (capAt f) k (rowsOfTables t) (rw (caps t well, row-count t well) at lone) (ap isCNode c ∙ node-of (n .cap) (e .row) h) in
+        let (d, md, other, same) = entry-of j j-other j-same in
+        absurd (other (only d md (subst (λ x. sameObject x (d .cap) ≡ true) c same)))
 
     gone : (j : ℕ) → member j (k ∷ []) ≡ true → Has j R
     gone j u =
@@ -126,7 +137,7 @@ module _ (t : Tables) (well : wellFormed edition32 t ≡ true) (k : ℕ) where
           ap (λ act. length (entries (edit act f))) acts,
         )
 
-    -- the row alone goes where it names no CNode
+    -- the row alone goes where nothing follows it
     pub removes-one : (t′ : Tables) → t′ ≡ withoutRow t k → Removes t t′ (target t k) 1
     unfolding applied remove
     removes-one t′ e =

@@ -11,4 +11,5 @@ pub mod Start
 pub mod Removed
 pub mod Raising
 pub mod Descent
+pub mod Elsewhere
 pub mod Cutting

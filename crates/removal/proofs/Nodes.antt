@@ -112,7 +112,3 @@ module _ (t : Tables) (well : wellFormed edition32 t ≡ true) where
   pub there-at : (k w : ℕ) → w ≡ word (t .table) k 0 → (w ≡ 0 → ⊥) → isEmpty (capAt (read edition32 t .forest) k) ≡ false
   unfolding isEmpty capOf
   there-at k w e z = ap (λ g. isEmpty (g k)) (sym caps) ∙ ne-eqb (word (t .table) k 0) 0 (λ q. z (e ∙ q))
-
-  pub plain-at : (k w : ℕ) → w ≡ word (t .table) k 0 → (w ≡ 5 → ⊥) → isCNode (capAt (read edition32 t .forest) k) ≡ false
-  unfolding isCNode capOf
-  plain-at k w e z = ap (λ g. isCNode (g k)) (sym caps) ∙ ne-eqb (word (t .table) k 0) 5 (λ q. z (e ∙ q))

@@ -1,12 +1,14 @@
 -- What a removal leaves of the tables.
 use Prim.Native.Nat.{ℕ, _+_}
 use mathlib.Core.Path.{_≡_}
-use mathlib.Core.Bool.{Bool, cond, not}
+use mathlib.Core.Bool.{Bool, cond, not, _&&_, _||_}
 use mathlib.Core.List.{List, [], _∷_}
+use lib.Dec.{eqb, ltb}
 use lib.ListN.{length}
-use Rattle.model.specs.Lists.{member}
+use Rattle.model.specs.declared.Cap.{Cap}
+use Rattle.model.specs.Lists.{member, count}
 use Rattle.model.specs.Edition.{edition32}
-use Rattle.model.specs.Cap.{isEmpty}
+use Rattle.model.specs.Cap.{isEmpty, isCNode, sameObject}
 use Rattle.model.specs.Tree.{edit, without, entries, capAt}
 use Rattle.model.specs.Tables.{Tables, read, write}
 use Rattle.model.specs.Operations.{remove, descendants}
@@ -45,6 +47,18 @@ pub record Removes (t t′ : Tables) (start : List ℕ) (gone : ℕ) : Type 0 wh
   pub tables : t′ ≡ write edition32 (afterRemoval t start .state)
 
 -- ---- one row by itself
+
+-- row j, another than row k, names what row k names
+unfoldable pub alsoNames : (ℕ → Cap) → (k j : ℕ) → Bool
+alsoNames cap k j = not (eqb j k) && sameObject (cap k) (cap j)
+
+-- one of n rows does
+unfoldable pub namedElsewhere : (ℕ → Cap) → (k n : ℕ) → Bool
+namedElsewhere cap k n = ltb 0 (count (alsoNames cap k) n)
+
+-- nothing follows row k: it names no CNode, or one that another of n rows names too
+unfoldable pub goesAlone : (ℕ → Cap) → (k n : ℕ) → Bool
+goesAlone cap k n = not (isCNode (cap k)) || namedElsewhere cap k n
 
 unfoldable pub occupied : Tables → (k : ℕ) → Bool
 occupied t k = not (isEmpty (capAt (read edition32 t .forest) k))

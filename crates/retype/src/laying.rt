@@ -10,6 +10,7 @@ use table::stores::put;
 use table::word;
 ghost use mathlib.Core.Path.{_≡_};
 ghost use Rattle.model.specs.Stores.{linkedRun};
+ghost use Rattle.model.specs.Tables.{lent};
 ghost use Rattle.retype.specs.Laid.{newRows, Room, laidOut, Layable};
 
 // The window's new capabilities, in rows from `first`, for objects in a row from `address`, listed after one row and before `next`.
@@ -43,8 +44,8 @@ pub fn link_new(
 
 // The window's objects made from byte `at` of the Untyped in a row: its watermark at their end, their capabilities straight after it.
 pub fn lay_out(t: &mut [u32], control: &mut [u32; 4], row: Row, q: Retyping, first: Row, at: u32)
-    requires { ⌜ Layable (record { table = now t; control = now control }) (row .0) (first .0) at q ⌝ }
-    ensures { λ _. ⌜ record { table = now (t .exit); control = now (control .exit) } ≡ laidOut (record { table = now (t .entry); control = now (control .entry) }) (row .0) (first .0) at q ⌝ }
+    requires { ⌜ Layable (lent (now t) (now control)) (row .0) (first .0) at q ⌝ }
+    ensures { λ _. ⌜ lent (now (t .exit)) (now (control .exit)) ≡ laidOut (lent (now (t .entry)) (now (control .entry))) (row .0) (first .0) at q ⌝ }
 {
     let base = word(t, row, 1) + at;
     let next = word(t, row, 5);

@@ -18,12 +18,13 @@ ghost use mathlib.Core.Path.{_≡_};
 ghost use Rattle.model.specs.Edition.{edition32};
 ghost use Rattle.model.specs.Operations as spec;
 ghost use Rattle.model.specs.Request.{carriedOut};
+ghost use Rattle.model.specs.Tables.{lent};
 ghost use Rattle.retype.specs.Allotting.{Retypable, Vacant, allotting};
 
 // The memory of the Untyped in a row for the window of empty slots from the first on.
 pub fn allot(t: &mut [u32], control: &mut [u32; 4], row: Row, q: Retyping, first: Row) -> Answer
-    requires { ⌜ Vacant (record { table = now t; control = now control }) (row .0) q (first .0) ⌝ }
-    ensures { λ r. ⌜ record { answer = r; tables = record { table = now (t .exit); control = now (control .exit) } } ≡ carriedOut edition32 (record { table = now (t .entry); control = now (control .entry) }) (allotting (row .0) (first .0) q) ⌝ }
+    requires { ⌜ Vacant (lent (now t) (now control)) (row .0) q (first .0) ⌝ }
+    ensures { λ r. ⌜ record { answer = r; tables = lent (now (t .exit)) (now (control .exit)) } ≡ carriedOut edition32 (lent (now (t .entry)) (now (control .entry))) (allotting (row .0) (first .0) q) ⌝ }
 {
     let u = cap_at(t, row);
     let from = start(t, row, u);
@@ -39,8 +40,8 @@ pub fn allot(t: &mut [u32], control: &mut [u32; 4], row: Row, q: Retyping, first
 
 // Retype, of the Untyped in a row.
 pub fn retype(t: &mut [u32], control: &mut [u32; 4], row: Row, q: Retyping) -> Answer
-    requires { ⌜ Retypable (record { table = now t; control = now control }) (row .0) q ⌝ }
-    ensures { λ r. ⌜ record { answer = r; tables = record { table = now (t .exit); control = now (control .exit) } } ≡ carriedOut edition32 (record { table = now (t .entry); control = now (control .entry) }) (λ f. spec.retype edition32 f (row .0) q) ⌝ }
+    requires { ⌜ Retypable (lent (now t) (now control)) (row .0) q ⌝ }
+    ensures { λ r. ⌜ record { answer = r; tables = lent (now (t .exit)) (now (control .exit)) } ≡ carriedOut edition32 (lent (now (t .entry)) (now (control .entry))) (λ f. spec.retype edition32 f (row .0) q) ⌝ }
 {
     let found = first_slot(t, q);
     match found {

@@ -3,6 +3,7 @@ use model::Address;
 use model::Answer;
 use model::Cap;
 use model::exponent;
+use table::caps::rights_of;
 use table::size::pow2;
 ghost use mathlib.Core.Path.{_≡_};
 ghost use Prim.Native.Nat.{_+_, _≤_};
@@ -38,17 +39,6 @@ pub fn size_barred(object: u32, size: u32) -> bool
     }
 }
 
-// All rights of an object type.
-pub fn full_rights(object: u32) -> u32
-    ensures { λ r. ⌜ r ≡ cap.rightsOf (1 + object) ⌝ }
-{
-    match object {
-        2 => 7,
-        3 | 5 => 3,
-        _ => 0,
-    }
-}
-
 // A new object's capability: full rights, badge 0, guard size 0, watermark 0.
 pub fn new_cap(object: u32, size: u32, address: Address) -> Cap
     requires { ⌜ tests.Known object size ⌝ }
@@ -64,7 +54,7 @@ pub fn new_cap(object: u32, size: u32, address: Address) -> Cap
         address,
         size: shown,
         third: 0,
-        fourth: full_rights(object),
+        fourth: rights_of(kind),
     }
 }
 

@@ -1,9 +1,14 @@
 // The check of any tables: well-formed or not.
 use model::Address;
+use model::CNODE;
 use model::Cap;
+use model::EMPTY;
+use model::NONE;
 use model::Row;
+use model::UNTYPED;
 use rules_row::rows_allowed;
 use table::cap_at;
+use table::caps::same_object;
 use table::row_of;
 use table::size::bytes_of;
 use table::size::pow2;
@@ -15,15 +20,10 @@ ghost use lib.ListN.{length};
 ghost use Rattle.model.specs.Edition.{edition32};
 ghost use Rattle.model.specs.Cap as cap;
 ghost use Rattle.model.specs.Tables as tables;
+ghost use Rattle.model.specs.Tables.{lent};
 ghost use Rattle.model.specs.Rules as rule;
 ghost use Rattle.rules.specs.Owners as spec;
 ghost use Rattle.rules.specs.Checked.{Scanned, Counted, Checked, Occupied};
-
-const NONE: u32 = 4294967295;
-
-const UNTYPED: u32 = 1;
-
-const CNODE: u32 = 5;
 
 // The rows of memory of 2^m bytes.
 fn rows_of(m: u32) -> u32
@@ -35,7 +35,7 @@ fn rows_of(m: u32) -> u32
 
 // The control words are in Boot's ranges, and the table has its length.
 fn control_allowed(table: &[u32], control: [u32; 4]) -> bool
-    ensures { λ r. ⌜ r ≡ rule.controlAllowed edition32 (record { table = now (table .entry); control = control }) ⌝ }
+    ensures { λ r. ⌜ r ≡ rule.controlAllowed edition32 (lent (now (table .entry)) control) ⌝ }
 {
     let m = control[0];
     if m < 10 {
@@ -73,7 +73,7 @@ fn listed(t: &[u32], m: u32, head: u32, count: u32) -> bool
             return false;
         }
         let row = Row(k);
-        if word(t, row, 0) == 0 {
+        if word(t, row, 0) == EMPTY {
             return false;
         }
         if word(t, row, 6) != before {
@@ -89,19 +89,6 @@ fn listed(t: &[u32], m: u32, head: u32, count: u32) -> bool
         left -= 1;
     }
     k == NONE
-}
-
-// The same kind, address and size.
-fn same_object(c: Cap, d: Cap) -> bool
-    ensures { λ r. ⌜ r ≡ cap.sameObject c d ⌝ }
-{
-    if c.kind != d.kind {
-        return false;
-    }
-    if c.address.0 != d.address.0 {
-        return false;
-    }
-    c.size == d.size
 }
 
 // An object of that many bytes lies inside an Untyped, ending at or below its watermark.
@@ -224,7 +211,7 @@ fn housed(t: &[u32], m: u32, owner: &[u32; 4096]) -> bool
     let rows = rows_of(m);
     let mut k: u32 = 0;
     while k < rows {
-        if word(t, Row(k), 0) != 0 {
+        if word(t, Row(k), 0) != EMPTY {
             let by = owner[k as usize];
             if rows <= by {
                 return false;
@@ -262,7 +249,7 @@ fn forest_allowed(t: &[u32], m: u32, head: u32, count: u32) -> bool
 
 // Whether the tables keep every rule.
 pub fn check(table: &[u32], control: &[u32; 4]) -> bool
-    ensures { λ r. ⌜ r ≡ rule.wellFormed edition32 (record { table = now (table .entry); control = now (control .entry) }) ⌝ }
+    ensures { λ r. ⌜ r ≡ rule.wellFormed edition32 (lent (now (table .entry)) (now (control .entry))) ⌝ }
 {
     if !control_allowed(table, *control) {
         return false;

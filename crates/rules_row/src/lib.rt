@@ -1,9 +1,15 @@
 // The rules on a row of the slot table by itself, and a scan of all rows.
+use model::CNODE;
 use model::Cap;
+use model::EMPTY;
+use model::ENDPOINT;
+use model::NOTIFICATION;
 use model::Row;
+use model::UNTYPED;
 use model::base_exponent;
 use model::exponent;
 use table::cap_at;
+use table::caps::rights_of;
 use table::size::pow2;
 use table::word;
 ghost use mathlib.Core.Path.{_≡_};
@@ -15,10 +21,6 @@ ghost use Rattle.model.specs.Edition.{edition32};
 ghost use Rattle.model.specs.Cap.{isEmpty, isUntyped, isCNode, rightsOf};
 ghost use Rattle.model.specs.Tables.{rows};
 ghost use Rattle.model.specs.Rules as rules;
-
-const UNTYPED: u32 = 1;
-
-const CNODE: u32 = 5;
 
 // The kinds run to 6, and sizes are as in the type table; an Untyped is at most half of memory.
 fn size_allowed(c: Cap, m: u32) -> bool
@@ -51,17 +53,6 @@ fn place_allowed(c: Cap, m: u32) -> bool
     address + bytes <= pow2(m)
 }
 
-// All rights of a kind.
-fn rights_of(kind: u32) -> u32
-    ensures { λ r. ⌜ r ≡ rightsOf kind ⌝ }
-{
-    match kind {
-        3 => 7,
-        4 | 6 => 3,
-        _ => 0,
-    }
-}
-
 // A guard size, rights, else 0.
 fn fourth_allowed(c: Cap) -> bool
     ensures { λ r. ⌜ r ≡ rules.fourthAllowed edition32 c ⌝ }
@@ -87,7 +78,7 @@ fn third_allowed(c: Cap) -> bool
                 c.third < 0x4_0000
             }
         }
-        3 | 4 => c.third < 0x1000_0000,
+        ENDPOINT | NOTIFICATION => c.third < 0x1000_0000,
         _ => c.third == 0,
     }
 }
@@ -130,7 +121,7 @@ fn row_allowed(t: &[u32], row: Row, m: u32) -> bool
     ensures { λ r. ⌜ r ≡ rules.rowAllowed edition32 m (now (t .entry)) (row .0) ⌝ }
 {
     let c = cap_at(t, row);
-    if c.kind == 0 {
+    if c.kind == EMPTY {
         return zero_row(t, row);
     }
     cap_allowed(c, m)
@@ -147,7 +138,7 @@ pub fn rows_allowed(t: &[u32], m: u32, rows: u32, count: u32) -> bool
         if !row_allowed(t, Row(k), m) {
             return false;
         }
-        if word(t, Row(k), 0) != 0 {
+        if word(t, Row(k), 0) != EMPTY {
             occupied += 1;
         }
         k += 1;

@@ -1,4 +1,5 @@
 // The lent slot table, read and written by row.
+pub mod caps; // caps.rt: rights by kind, and which capabilities name the same object
 pub mod stores; // stores.rt: words, capabilities and links written
 pub mod size; // size.rt: powers of two, the bytes of an object and the slots of a CNode
 
@@ -10,9 +11,6 @@ ghost use Prim.Native.Nat.{_+_, _*_, _/_, _≤_, _<_};
 ghost use lib.ListN.{length};
 ghost use Rattle.model.specs.Tables as tables;
 ghost use Rattle.table.specs.Children.{deeperNext};
-
-// The kind of a CNode.
-pub const CNODE: u32 = 5;
 
 // Word i of a row.
 pub fn word(t: &[u32], row: Row, i: usize) -> u32

@@ -13,7 +13,7 @@ use Rattle.model.specs.Cap.{isEmpty, isUntyped}
 use Rattle.model.specs.Check.{passed, _>>_, refuse}
 use Rattle.model.specs.Tree.{hasChildren}
 use Rattle.model.specs.Stores.{linked, recapped}
-use Rattle.model.specs.Tables.{Tables, word, capOf, read}
+use Rattle.model.specs.Tables.{Tables, capOf, lent, read, word}
 use Rattle.model.specs.Rules.{wellFormed}
 use Rattle.model.specs.Operations.{full, fresh}
 use Rattle.model.specs.Request.{carriedOut}
@@ -23,7 +23,7 @@ use Rattle.model.proofs.Transfer.Copied.{write-copied}
 use Rattle.model.proofs.Transfer.Next.{children-words}
 use Rattle.table.specs.Children.{deeperNext}
 use Rattle.transfer.specs.declared.ways.Way.{Way}
-use Rattle.transfer.specs.Lent.{lent, after}
+use Rattle.transfer.specs.Places.{after}
 use Rattle.transfer.specs.Ways.{copied, copyAlong, Along}
 use Rattle.transfer.proofs.Bounds.{row-below}
 

@@ -14,7 +14,7 @@ use Rattle.model.proofs.Words.Chain.{row-taken}
 use Rattle.model.proofs.Words.WellFormed.{roomy32, formed}
 use Rattle.model.proofs.Kept.Allowed.{untyped-size}
 use Rattle.model.proofs.Transfer.Held.{counted-most, depth-below}
-use Rattle.transfer.specs.Lent.{InTable}
+use Rattle.transfer.specs.Places.{InTable}
 
 module _ (t : Tables) (e : wellFormed edition32 t ≡ true) where
   abbrev m : ℕ

@@ -21,7 +21,7 @@ use Rattle.model.proofs.Transfer.Outcome.{comes-refused, comes-done}
 use Rattle.model.proofs.Transfer.Turned.{exchangedTables, write-turned, write-exchanged}
 use Rattle.transfer.specs.declared.turns.Rows.{Rows}
 use Rattle.transfer.specs.declared.turns.Turn.{Turn}
-use Rattle.transfer.specs.Lent.{after}
+use Rattle.transfer.specs.Places.{after}
 use Rattle.transfer.specs.Turns.{threeRows, turnCaps, turn, turned, InRows, Turnable, Turns}
 use Rattle.transfer.proofs.Bounds.{row-below}
 

@@ -9,6 +9,7 @@ use caps::full;
 use model::Answer;
 use model::Change;
 use model::Place;
+use model::UNTYPED;
 use shifts::exchange;
 use shifts::shift;
 use table::cap_at;
@@ -31,7 +32,8 @@ ghost use Rattle.model.specs.Check.{passed};
 ghost use Rattle.model.specs.Rules.{wellFormed};
 ghost use Rattle.model.specs.Operations as ops;
 ghost use Rattle.model.specs.Request.{carriedOut};
-ghost use Rattle.transfer.specs.Lent.{lent, Reached, after};
+ghost use Rattle.model.specs.Tables.{lent};
+ghost use Rattle.transfer.specs.Places.{Reached, after};
 ghost use Rattle.transfer.specs.Turns as turns;
 ghost use Rattle.transfer.specs.Ways as spec;
 
@@ -55,7 +57,7 @@ fn copy_along(t: &mut [u32], control: &mut [u32; 4], w: Way) -> Answer
     ensures { λ r. ⌜ record { answer = r; tables = lent (now (t .exit)) (now (control .exit)) } ≡ carriedOut edition32 (lent (now (t .entry)) (now (control .entry))) (λ f. spec.copyAlong edition32 f w) ⌝ }
 {
     let cap = w.cap;
-    if cap.kind == 1 && has_children(t, w.from) {
+    if cap.kind == UNTYPED && has_children(t, w.from) {
         return Answer::RevokeFirst;
     }
     copied(t, control, w);

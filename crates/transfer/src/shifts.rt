@@ -1,5 +1,6 @@
 // Entries of the list put into other rows, each in its place.
 use model::Cap;
+use model::NONE;
 use model::Row;
 use table::stores::link;
 use table::stores::put_cap;
@@ -13,11 +14,10 @@ ghost use Rattle.model.specs.Stores.{linked};
 ghost use Rattle.model.proofs.Words.Moved.{movedTables};
 ghost use Rattle.model.proofs.Words.Swapped as swapping;
 ghost use Rattle.model.proofs.Transfer.Turned.{exchangedTables};
-ghost use Rattle.transfer.specs.Lent.{lent, InTable};
+ghost use Rattle.model.specs.Tables.{lent};
+ghost use Rattle.transfer.specs.Places.{InTable};
 
 // The word for "no row".
-const NONE: u32 = 4294967295;
-
 // The entry in row `from` put into row `to` as c.
 pub fn shift(t: &mut [u32], control: &mut [u32; 4], from: Row, to: Row, c: Cap)
     requires { ⌜ InTable (now t) (from .0) × InTable (now t) (to .0) ⌝ }

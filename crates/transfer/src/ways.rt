@@ -6,6 +6,7 @@ use lookup::find;
 use model::Answer;
 use model::Cap;
 use model::Change;
+use model::EMPTY;
 use model::Failure;
 use model::Place;
 use model::Row;
@@ -15,7 +16,7 @@ ghost use Rattle.model.specs.Edition.{edition32};
 ghost use Rattle.model.specs.Tables.{capOf};
 ghost use Rattle.lookup.specs.Finds.{Finds};
 ghost use Rattle.lookup.specs.Ready.{Ready};
-ghost use Rattle.transfer.specs.Lent.{Reached};
+ghost use Rattle.transfer.specs.Places.{Reached};
 ghost use Rattle.transfer.specs.Ways as spec;
 
 // From which row to which a capability goes, and what it becomes.
@@ -41,7 +42,7 @@ pub fn free_slot(t: &[u32], p: Place) -> Found
         Found::Refused(answer) => Found::Refused(answer),
         Found::At(row) => {
             let c = cap_at(t, row);
-            if c.kind != 0 {
+            if c.kind != EMPTY {
                 return Found::Refused(Answer::DeleteFirst);
             }
             Found::At(row)
@@ -59,7 +60,7 @@ pub fn held_slot(t: &[u32], p: Place) -> Found
         Found::Refused(answer) => Found::Refused(answer),
         Found::At(row) => {
             let c = cap_at(t, row);
-            if c.kind == 0 {
+            if c.kind == EMPTY {
                 return Found::Refused(Answer::FailedLookup {
                     source: p.source,
                     failure: Failure::Missing { bits: p.depth },

@@ -41,15 +41,15 @@ cast-shown c = omega (arith, c .exponent .ensures, exponent-small _ _ (c .before
 add-kind : tie.Need-add-kind
 add-kind c = search needs
 
-full-rights-requires : tie.Need-full-rights-requires
-full-rights-requires c κs = search needs
+rights-of-requires : tie.Need-rights-of-requires
+rights-of-requires c κs = search needs
 
 returns : tie.Need-returns
 returns c =
     fields _ _ _ _ _
     (⊎-elim (λ w. shown _ _ _ _ (w .2) (w .1 .ensures) (w .0 .taken)) (λ w. plain _ _ _ (w .1) (w .0 .left)) (c .before .if1 .came))
-    (c .full-rights .ensures)
+    (c .rights-of .ensures)
 
 pub new-cap-spec : {M : Type 1} → statement M
 new-cap-spec =
-    tie.close (tie.spec exponent-requires cast-shown add-kind full-rights-requires returns)
+    tie.close (tie.spec exponent-requires cast-shown add-kind rights-of-requires returns)

@@ -3,7 +3,7 @@ use mathlib.Core.Path.{ap, _∙_}
 use denote.Ref.{now}
 use borrow.Author.Needs.{needs}
 use Rattle.model.proofs.Words.Swapped.{swapped}
-use Rattle.transfer.specs.Lent.{lent}
+use Rattle.model.specs.Tables.{lent}
 use Rattle.transfer.proofs.Stored.{exchanges}
 use Rattle.transfer.proofs.shifts.exchange.Statement.{statement}
 use Rattle.transfer.proofs.shifts.exchange.Tie as tie

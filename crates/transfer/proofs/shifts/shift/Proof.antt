@@ -1,7 +1,7 @@
 -- The stores are those of `Stored`; where the entry is the first one, the head of the list goes with it.
 use denote.Ref.{now}
 use borrow.Author.Needs.{needs}
-use Rattle.transfer.specs.Lent.{lent}
+use Rattle.model.specs.Tables.{lent}
 use Rattle.transfer.proofs.Stored.{moves-first, moves-later}
 use Rattle.transfer.proofs.shifts.shift.Statement.{statement}
 use Rattle.transfer.proofs.shifts.shift.Tie as tie
