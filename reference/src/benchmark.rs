@@ -4,8 +4,9 @@ use std::io::{self, Write};
 use std::process::{Command, Stdio};
 use std::time::{Duration, Instant};
 
-/// The requests of one measurement.
-const ASKS: u32 = 2000;
+/// The pairs of requests of one measurement, and the requests.
+const PAIRS: usize = 1000;
+const ASKS: u32 = 2 * PAIRS as u32;
 
 /// How often each program is run on the same lines, in turn; the shortest time counts.
 const TURNS: usize = 3;
@@ -24,12 +25,30 @@ fn tables(m: u32, r: u32, full: bool) -> String {
     lines
 }
 
-/// Copy an Endpoint and delete the copy, again and again: two requests that leave the tables as they were.
-fn asks(m: u32, r: u32) -> String {
-    let source = m - r - 3;
-    let free = (1u32 << r) - 1;
-    let pair = format!("ask 0 1 0 {} 32 0 {} 32 7\nask 0 5 0 {} 32\n", free, source, free);
-    pair.repeat(ASKS as usize / 2)
+/// Two requests that leave the tables as they were: one fills the last slot of the boot CNode, the other deletes what is there.
+fn pair(r: u32, fills: &str) -> String {
+    format!("{}\nask 0 5 0 {} 32\n", fills, last_slot(r))
+}
+
+fn last_slot(r: u32) -> u32 {
+    (1 << r) - 1
+}
+
+/// A copy of what is in a slot of the boot CNode.
+fn copies(r: u32, slot: u32) -> String {
+    pair(r, &format!("ask 0 1 0 {} 32 0 {} 32 7", last_slot(r), slot))
+}
+
+/// A copy of the first Endpoint.
+fn copies_endpoint(m: u32, r: u32) -> String {
+    copies(r, m - r - 3)
+}
+
+/// What is made and deleted to compare the ways of Delete: a copy of an Endpoint; a second name of the boot CNode, which stays; the only name
+/// of a new CNode, with which its slots go.
+fn removals(m: u32, r: u32) -> [(&'static str, String); 3] {
+    let new_cnode = pair(r, &format!("ask 0 8 {} 4 1 0 0 0 {} 1", m - r - 5, last_slot(r)));
+    [("endpoint", copies_endpoint(m, r)), ("second-name-of-cnode", copies(r, 0)), ("only-name-of-cnode", new_cnode)]
 }
 
 /// How long a program takes on some lines.
@@ -41,6 +60,15 @@ fn time(program: &[String], lines: &str) -> io::Result<Duration> {
     Ok(began.elapsed())
 }
 
+/// The shortest time of a program.
+fn fastest(program: &[String], lines: &str) -> io::Result<Duration> {
+    let mut best = time(program, lines)?;
+    for _ in 1..TURNS {
+        best = best.min(time(program, lines)?);
+    }
+    Ok(best)
+}
+
 /// The shortest time of each of two programs, run in turn.
 fn shortest(one: &[String], other: &[String], lines: &str) -> io::Result<(Duration, Duration)> {
     let mut best = (time(one, lines)?, time(other, lines)?);
@@ -50,22 +78,44 @@ fn shortest(one: &[String], other: &[String], lines: &str) -> io::Result<(Durati
     Ok(best)
 }
 
-/// A line for each size and fill: the rows, the console's and this program's time for a request, and their ratio.
+/// Microseconds for a request, from the time of the lines that make the tables and the time with the requests.
+fn each(idle: Duration, busy: Duration) -> f64 {
+    busy.saturating_sub(idle).as_secs_f64() * 1e6 / f64::from(ASKS)
+}
+
+/// The boot radix that is measured for an m.
+fn radix(m: u32) -> u32 {
+    8.min(m - 5)
+}
+
+/// A line for each size and fill: the rows, the console's and this program's time for a request, and their ratio. Then, for the console alone, a
+/// line for each size and way of Delete: its time for a request, and the ratio to that with an Endpoint's copy.
 pub fn run(console: &[&str], out: &mut impl Write) -> io::Result<()> {
     let console: Vec<String> = console.iter().map(|word| word.to_string()).collect();
     let own = vec![std::env::current_exe()?.to_string_lossy().into_owned()];
     writeln!(out, "m rows fill console-us reference-us ratio")?;
     for m in 10..=16 {
-        let r = 8.min(m - 5);
+        let r = radix(m);
         for full in [false, true] {
             let start = tables(m, r, full);
-            let lines = start.clone() + &asks(m, r);
+            let lines = start.clone() + &copies_endpoint(m, r).repeat(PAIRS);
             let (idle, own_idle) = shortest(&console, &own, &start)?;
             let (busy, own_busy) = shortest(&console, &own, &lines)?;
-            let each = |busy: Duration, idle: Duration| busy.saturating_sub(idle).as_secs_f64() * 1e6 / f64::from(ASKS);
-            let (theirs, ours) = (each(busy, idle), each(own_busy, own_idle));
+            let (theirs, ours) = (each(idle, busy), each(own_idle, own_busy));
             let fill = if full { "full" } else { "boot" };
             writeln!(out, "{} {} {} {:.2} {:.2} {:.3}", m, 1u32 << (m - 4), fill, theirs, ours, theirs / ours)?;
+        }
+    }
+    writeln!(out, "m rows deleted console-us ratio")?;
+    for m in [10, 13, 16] {
+        let r = radix(m);
+        let start = tables(m, r, false);
+        let mut first = None;
+        for (name, pair) in removals(m, r) {
+            let lines = start.clone() + &pair.repeat(PAIRS);
+            let (idle, busy) = (fastest(&console, &start)?, fastest(&console, &lines)?);
+            let time = each(idle, busy);
+            writeln!(out, "{} {} {} {:.2} {:.3}", m, 1u32 << (m - 4), name, time, time / *first.get_or_insert(time))?;
         }
     }
     Ok(())

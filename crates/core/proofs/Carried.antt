@@ -2,7 +2,7 @@
 -- table's words say. So a root that the code found in the table is the one that the definition looks up.
 -- Assumes nothing.
 use Prim.Native.Nat.{ℕ}
-use mathlib.Core.Path.{_≡_, refl, sym, ap, _∙_}
+use mathlib.Core.Path.{_≡_, sym, ap, _∙_}
 use mathlib.Core.Bool.{true}
 use mathlib.Core.List.{List}
 use lib.ListN.{getD}
@@ -15,28 +15,16 @@ use Rattle.model.specs.Tables.{Tables, capOf, read}
 use Rattle.model.specs.Rules.{wellFormed}
 use Rattle.model.specs.Lookup.{lookup}
 use Rattle.model.specs.Operations.{Done}
-use Rattle.model.specs.Request.{orFault, rowNamed, applied, concluded, carriedOut}
+use Rattle.model.specs.Request.{orFault, rowNamed, carriedOut}
+use Rattle.model.proofs.Outcome.{comes-refused, comes-same}
 use Rattle.model.proofs.Words.Caps.{caps-read}
 use Rattle.model.proofs.Words.WellFormed.{roomy32}
 use Rattle.core.specs.Asking.{rowNamedBy}
-
--- two operations that are the same on the state that is read
-pub carried-same : (t : Tables) (g h : Forest → Check Done) → g (read edition32 t .forest) ≡ h (read edition32 t .forest) → carriedOut edition32 t g ≡ carriedOut edition32 t h
-unfolding carriedOut
-carried-same t g h e = ap (λ (c : Check Done). concluded edition32 t (c >>= λ d. passed (applied (read edition32 t) d))) e
-
--- a refusal leaves the tables as they were
-pub carried-refused : (t : Tables) (g : Forest → Check Done) (a : Answer) → g (read edition32 t .forest) ≡ refused a → record { answer = a; tables = t } ≡ carriedOut edition32 t g
-unfolding carriedOut concluded _>>=_
-carried-refused t g a e = rw e
 
 module _ (t : Tables) (formed : wellFormed edition32 t ≡ true) where
   -- what the state's rows hold
   pub caps-are : capAt (read edition32 t .forest) ≡ capOf (t .table)
   caps-are = sym (caps-read edition32 roomy32 t formed)
-
-  pub cap-is : (k : ℕ) → capAt (read edition32 t .forest) k ≡ capOf (t .table) k
-  cap-is k = ap (λ (caps : ℕ → Cap). caps k) caps-are
 
   pub named-is : (caller : ℕ) (message : List ℕ) (at : ℕ) → rowNamed edition32 (read edition32 t .forest) caller message at ≡ rowNamedBy (capOf (t .table)) caller message at
   unfolding rowNamed rowNamedBy
@@ -46,11 +34,11 @@ module _ (t : Tables) (formed : wellFormed edition32 t ≡ true) where
     pub root-refused : (a : Answer) → rowNamedBy (capOf (t .table)) caller message at ≡ refused a
         → record { answer = a; tables = t } ≡ carriedOut edition32 t (λ f. rowNamed edition32 f caller message at >>= operation f)
     root-refused a e =
-        carried-refused t (λ f. rowNamed edition32 f caller message at >>= operation f) a
+        comes-refused edition32 t (λ f. rowNamed edition32 f caller message at >>= operation f) a
         (unfold _>>=_ in ap (λ (c : Check ℕ). c >>= operation (read edition32 t .forest)) (named-is caller message at ∙ e))
 
     pub root-found : (k : ℕ) → rowNamedBy (capOf (t .table)) caller message at ≡ passed k
         → carriedOut edition32 t (λ f. operation f k) ≡ carriedOut edition32 t (λ f. rowNamed edition32 f caller message at >>= operation f)
     root-found k e =
-        carried-same t (λ f. operation f k) (λ f. rowNamed edition32 f caller message at >>= operation f)
+        comes-same edition32 t (λ f. operation f k) (λ f. rowNamed edition32 f caller message at >>= operation f)
         (unfold _>>=_ in sym (ap (λ (c : Check ℕ). c >>= operation (read edition32 t .forest)) (named-is caller message at ∙ e)))

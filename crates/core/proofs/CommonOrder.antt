@@ -1,17 +1,16 @@
 -- The common order of a request, one way out after the other, as what is found of its service.
 -- Assumes nothing.
 use Prim.Native.Nat.{ℕ, _+_, _*_, _≤_, _<_}
-use mathlib.Core.Path.{_≡_, refl, sym, ap, _∙_}
+use mathlib.Core.Path.{_≡_, sym, ap, _∙_}
 use mathlib.Core.Bool.{true, false}
 use mathlib.Core.List.{List}
-use native.Mathlib.Omega.{arith}
 use lib.ListN.{getD, length}
 use borrow.Author.Tests.{lt-ltb, le-ltb, eq-eqb, ne-eqb}
 use Rattle.model.specs.declared.Answer.{Answer}
 use Rattle.model.specs.declared.Answer.the-variants.{InvalidCapability, IllegalOperation, TruncatedMessage}
 use Rattle.model.specs.declared.Row.{Row}
 use Rattle.model.specs.Cap.{isEmpty}
-use Rattle.model.specs.Check.{Check, passed, refused, _>>=_, _>>_, refuse}
+use Rattle.model.specs.Check.{passed, _>>=_, _>>_, refuse}
 use Rattle.model.specs.Tables.{capOf}
 use Rattle.model.specs.Request.{operationOf, invokes, wordsOf}
 use Rattle.lookup.specs.declared.Found.{Found}

@@ -17,8 +17,9 @@ use Rattle.model.specs.Rules.{wellFormed}
 use Rattle.model.specs.Lookup.{lookup}
 use Rattle.model.specs.Operations.{Done, slotOf, find, remove, delete, descendants, revoke}
 use Rattle.model.specs.Request.{carriedOut, concluded, applied, place}
+use Rattle.model.proofs.Outcome.{comes-refused}
 use Rattle.removal.specs.Removing.{Removes, target, offspring}
-use Rattle.core.proofs.Carried.{caps-are, carried-refused}
+use Rattle.core.proofs.Carried.{caps-are}
 
 -- what a removal leaves, as what is concluded
 gone-is : (t t′ : Tables) (start : List ℕ) (gone : ℕ) → Removes t t′ start gone
@@ -44,7 +45,7 @@ module _ (t : Tables) (formed : wellFormed edition32 t ≡ true) (message : List
         → record { answer = a; tables = t } ≡ carriedOut edition32 t removing
     unfolding removing
     removing-refused a e =
-        carried-refused t removing a
+        comes-refused edition32 t removing a
         (unfold _>>=_ in ap (λ (c : Check ℕ). c >>= λ row. passed (remove edition32 (read edition32 t .forest) (from (read edition32 t .forest) row))) (found-is ∙ e))
 
     removing-found : (row : ℕ) (t′ : Tables) (gone : ℕ) → slotOf edition32 (p .source) (lookup edition32 (capOf (t .table)) (p .root) (p .index) (p .depth)) ≡ passed row

@@ -21,12 +21,13 @@ use Rattle.model.specs.Tables.{Tables, capOf, read}
 use Rattle.model.specs.Rules.{wellFormed}
 use Rattle.model.specs.Operations.{Done, copy, move, rotate, delete, revoke, retype}
 use Rattle.model.specs.Request.{carriedOut, operationOf, perform, place}
+use Rattle.model.proofs.Outcome.{comes-refused, comes-same}
 use Rattle.lookup.specs.Ready.{Usable}
 use Rattle.lookup.proofs.WellFormed.{usable}
 use Rattle.retype.specs.Allotting.{Retypable}
 use Rattle.core.specs.Asking.{retypingBy, rowNamedBy}
 use Rattle.core.specs.Serving.{twoPlaces, turnedFrom}
-use Rattle.core.proofs.Carried.{carried-refused, carried-same, caps-are, root-found, root-refused}
+use Rattle.core.proofs.Carried.{caps-are, root-found, root-refused}
 
 -- a place whose root was read from the table can be looked up
 pub place-reached : (t : Tables) → wellFormed edition32 t ≡ true → (k : ℕ) (message : List ℕ) (at : ℕ) (source : Bool) (p : Place) → p ≡ place (capOf (t .table) k) message at source
@@ -62,7 +63,7 @@ module _ (t : Tables) (formed : wellFormed edition32 t ≡ true) (caller : ℕ) 
         → carriedOut edition32 t (λ f. operation f dest source) ≡ carriedOut edition32 t (λ f. twoPlaces operation f caller message k)
     unfolding twoPlaces between
     two-found root dest source e d s =
-        carried-same t (λ f. operation f dest source) (λ f. between f root)
+        comes-same edition32 t (λ f. operation f dest source) (λ f. between f root)
         (ap₂ (operation (read edition32 t .forest)) d s
         ∙ ap (λ (caps : ℕ → Cap). operation (read edition32 t .forest) (place (caps k) message 2 false) (place (caps root) message 5 true)) (sym (caps-are t formed)))
         ∙ root-found t formed caller message 4 between root e
@@ -85,7 +86,7 @@ module _ (t : Tables) (formed : wellFormed edition32 t ≡ true) (caller : ℕ) 
         → carriedOut edition32 t (λ f. rotate edition32 f dest mid source datum pivotDatum) ≡ carriedOut edition32 t (λ f. turnedFrom f caller message k pivot)
     unfolding turnedFrom turned
     turn-found root dest mid source datum pivotDatum e d p s w v =
-        carried-same t (λ f. rotate edition32 f dest mid source datum pivotDatum) (λ f. turned f root)
+        comes-same edition32 t (λ f. rotate edition32 f dest mid source datum pivotDatum) (λ f. turned f root)
         ((λ i. rotate edition32 (read edition32 t .forest) (d i) (p i) (s i) (w i) (v i))
         ∙ ap (λ (caps : ℕ → Cap). rotate edition32 (read edition32 t .forest) (place (caps k) message 2 false) (place (caps pivot) message 6 false) (place (caps root) message 10 true) (getD message 4 0) (getD message 8 0)) (sym (caps-are t formed)))
         ∙ root-found t formed caller message 9 turned root e
@@ -114,7 +115,7 @@ module _ (t : Tables) (formed : wellFormed edition32 t ≡ true) (caller : ℕ) 
       → carriedOut edition32 t (λ f. retype edition32 f k q) ≡ carriedOut edition32 t (λ f. perform edition32 f caller message k Retype)
   unfolding perform retyped retypingBy
   retype-found root q e asked =
-      carried-same t (λ f. retype edition32 f k q) (λ f. retyped f root)
+      comes-same edition32 t (λ f. retype edition32 f k q) (λ f. retyped f root)
       (ap (retype edition32 (read edition32 t .forest) k) asked ∙ ap (λ (caps : ℕ → Cap). retype edition32 (read edition32 t .forest) k (retypingBy caps message root)) (sym (caps-are t formed)))
       ∙ root-found t formed caller message 4 retyped root e
 
@@ -125,7 +126,7 @@ module _ (t : Tables) (caller : ℕ) (message : List ℕ) (k : ℕ) where
   pub chosen-is : (o : Operation) (g : Forest → Check Done) → operationOf (getD message 0 0) ≡ o → g (read edition32 t .forest) ≡ perform edition32 (read edition32 t .forest) caller message k o
       → carriedOut edition32 t g ≡ carriedOut edition32 t (λ f. perform edition32 f caller message k (operationOf (getD message 0 0)))
   chosen-is o g e same =
-      carried-same t g (λ f. perform edition32 f caller message k (operationOf (getD message 0 0)))
+      comes-same edition32 t g (λ f. perform edition32 f caller message k (operationOf (getD message 0 0)))
       (same ∙ ap (perform edition32 (read edition32 t .forest) caller message k) (sym e))
 
   pub copy-chosen : (w : ℕ) → operationOf (getD message 0 0) ≡ Copy → w ≡ getD message 7 0
@@ -166,5 +167,5 @@ module _ (t : Tables) (caller : ℕ) (message : List ℕ) (k : ℕ) where
       → record { answer = IllegalOperation; tables = t } ≡ carriedOut edition32 t (λ f. perform edition32 f caller message k (operationOf (getD message 0 0)))
   unfolding perform
   unknown-chosen e =
-      carried-refused t (λ f. perform edition32 f caller message k (operationOf (getD message 0 0))) IllegalOperation
+      comes-refused edition32 t (λ f. perform edition32 f caller message k (operationOf (getD message 0 0))) IllegalOperation
       (ap (perform edition32 (read edition32 t .forest) caller message k) e)

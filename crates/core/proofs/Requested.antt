@@ -2,7 +2,7 @@
 -- Assumes nothing.
 use Prim.Native.Nat.{ℕ}
 use mathlib.Core.Path.{_≡_, refl, sym, ap, _∙_}
-use mathlib.Core.Bool.{Bool, true, false}
+use mathlib.Core.Bool.{true, false}
 use mathlib.Core.List.{List}
 use lib.ListN.{getD}
 use borrow.Author.Tests.{not-false}
@@ -11,26 +11,16 @@ use Rattle.model.specs.declared.Answer.the-variants.{BadTables}
 use Rattle.model.specs.declared.Cap.{Cap}
 use Rattle.model.specs.Edition.{edition32}
 use Rattle.model.specs.Tree.{Forest, capAt}
-use Rattle.model.specs.Check.{Check, passed, refused, _>>=_, _>>_, refuse}
+use Rattle.model.specs.Check.{Check, passed, refused, _>>=_, _>>_}
 use Rattle.model.specs.Tables.{Tables, capOf, read}
 use Rattle.model.specs.Rules.{wellFormed}
-use Rattle.model.specs.Operations.{Done}
 use Rattle.model.specs.Request.{operationOf, invokes, rowNamed, perform, served, carriedOut, request}
-use Rattle.model.proofs.Kept.Checks.{Passes, passes-at, twin-bind, twin-known, twin-pass, twin-refuse, twin-seq}
+use Rattle.model.proofs.Outcome.{comes-refused, comes-same, bind-bind, then-bind}
+use Rattle.model.proofs.Kept.Checks.{passes-at, twin-bind, twin-known, twin-pass, twin-refuse, twin-seq}
 use Rattle.core.specs.Asking.{rowNamedBy, asked}
-use Rattle.core.proofs.Carried.{caps-are, carried-refused, carried-same}
+use Rattle.core.proofs.Carried.{caps-are}
 
 -- ---- what is checked first, and the rest
-
-bind-after : {A B : Type 0} (c : Check (Unit {0})) (d : Check A) (f : A → Check B) → ((c >> d) >>= f) ≡ (c >> (d >>= f))
-unfolding _>>_ _>>=_
-bind-after (passed u) d f = refl
-bind-after (refused a) d f = refl
-
-bind-bind : {A B C : Type 0} (c : Check A) (f : A → Check B) (g : B → Check C) → ((c >>= f) >>= g) ≡ (c >>= λ a. f a >>= g)
-unfolding _>>=_
-bind-bind (passed a) f g = refl
-bind-bind (refused r) f g = refl
 
 pass-bind : {A B : Type 0} (a : A) (f : A → Check B) → (passed a >>= f) ≡ f a
 unfolding _>>=_
@@ -40,7 +30,7 @@ pass-bind a f = refl
 served-is : (f : Forest) (caller : ℕ) (message : List ℕ)
     → served edition32 f caller message ≡ (asked (capAt f) caller message >>= λ k. perform edition32 f caller message k (operationOf (getD message 0 0)))
 unfolding served asked rowNamed rowNamedBy
-served-is f caller message = sym (simp (bind-after, bind-bind, pass-bind))
+served-is f caller message = sym (simp (then-bind, bind-bind, pass-bind))
 
 -- a service that was found is of the operation's kind
 pub asked-invokes : (caps : ℕ → Cap) (caller : ℕ) (message : List ℕ) (k : ℕ) → asked caps caller message ≡ passed k → invokes (caps k) (operationOf (getD message 0 0)) ≡ true
@@ -70,7 +60,7 @@ module _ (t : Tables) (caller : ℕ) (message : List ℕ) where
 
     pub request-refused : (a : Answer) → asked (capOf (t .table)) caller message ≡ refused a → record { answer = a; tables = t } ≡ request edition32 t caller message
     request-refused a e =
-        carried-refused t (λ f. served edition32 f caller message) a
+        comes-refused edition32 t (λ f. served edition32 f caller message) a
         (served-is (read edition32 t .forest) caller message
         ∙ (unfold _>>=_ in ap (λ (c : Check ℕ). c >>= λ k. perform edition32 (read edition32 t .forest) caller message k (operationOf (getD message 0 0))) (asked-is ∙ e)))
         ∙ sym opened
@@ -78,7 +68,7 @@ module _ (t : Tables) (caller : ℕ) (message : List ℕ) where
     pub request-found : (k : ℕ) → asked (capOf (t .table)) caller message ≡ passed k
         → carriedOut edition32 t (λ f. perform edition32 f caller message k (operationOf (getD message 0 0))) ≡ request edition32 t caller message
     request-found k e =
-        carried-same t (λ f. perform edition32 f caller message k (operationOf (getD message 0 0))) (λ f. served edition32 f caller message)
+        comes-same edition32 t (λ f. perform edition32 f caller message k (operationOf (getD message 0 0))) (λ f. served edition32 f caller message)
         (sym
         (served-is (read edition32 t .forest) caller message
         ∙ (unfold _>>=_ in ap (λ (c : Check ℕ). c >>= λ k. perform edition32 (read edition32 t .forest) caller message k (operationOf (getD message 0 0))) (asked-is ∙ e))))

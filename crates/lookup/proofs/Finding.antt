@@ -16,7 +16,6 @@ use Rattle.model.specs.Cap.{isCNode}
 use Rattle.model.specs.Check.{Check, passed, refused}
 use Rattle.model.specs.Tables.{capOf}
 use Rattle.model.specs.Lookup.{lookup}
-use Rattle.lookup.specs.declared.Found.{Found}
 use Rattle.lookup.specs.declared.Found.the-variants.{At, Refused}
 use Rattle.lookup.specs.Finds.{Finds}
 use Rattle.lookup.specs.Ready.{Ready, Usable}

@@ -27,11 +27,12 @@ use Rattle.model.proofs.Words.Linking.{middle-below, next-is, depth-is}
 use Rattle.model.proofs.Words.Runs.{raisedRun}
 use Rattle.model.proofs.Words.Around.{At, depthOf, at-has as around-at}
 use Rattle.model.proofs.Words.Edited.{listedOf, listedBefore, listing-at, listedUnder, listedPast, after-is}
-use Rattle.model.proofs.Words.Descendants.{under-deep, past-low, descendants-are}
+use Rattle.model.proofs.Words.Descendants.{under-deep, past-low, holds-after, all-after, descendants-are}
+use Rattle.model.proofs.Words.Bounds.{rows-small}
 use Rattle.removal.specs.Marking.{only, rowCount}
 use Rattle.removal.proofs.Marks.{or-false}
 use Rattle.removal.proofs.Slots.{or-or}
-use Rattle.removal.proofs.Tables.{rowsOfTables, rows-small, list-read}
+use Rattle.removal.proofs.Tables.{rowsOfTables, list-read}
 use Rattle.removal.proofs.Nodes.{sound, row-count}
 use Rattle.removal.proofs.Raising.{Raised}
 
@@ -114,14 +115,6 @@ all-first : (P : ℕ → Type 0) (us ps : List Listed) → All P (rowsIn (us ++ 
 all-first P [] ps a = tt
 all-first P (u ∷ us) ps a = (a .0, all-first P us ps (a .1))
 
-all-after : (P : ℕ → Type 0) (pre : List Listed) (x : Listed) (post : List Listed) → All P (rowsIn (pre ++ x ∷ post)) → All P (rowsIn post)
-all-after P [] x post a = a .1
-all-after P (q ∷ pre) x post a = all-after P pre x post (a .1)
-
-holds-after : (g : ℕ → List ℕ) (before : ℕ) (pre : List Listed) (x : Listed) (post : List Listed) → Holds edition32 g before (pre ++ x ∷ post) → Holds edition32 g (x .entry .row) post
-holds-after g before [] x post h = h .1
-holds-after g before (q ∷ pre) x post h = holds-after g (q .entry .row) pre x post (h .1)
-
 longer : (pre : List Listed) (x : Listed) (us ps : List Listed) → length us ≤ length (pre ++ x ∷ (us ++ ps))
 longer pre x us ps = omega (arith, length-append pre (x ∷ (us ++ ps)), length-append us ps)
 
@@ -188,7 +181,7 @@ module _ (t : Tables) (well : wellFormed edition32 t ≡ true) (k : ℕ) where
           record {
             room = omega (arith, rows-small t well);
             before = listedOf at .entry .row;
-            holds = holds-after (rowAt (t .table)) 4294967295 pre (listedOf at) (us ++ ps) (written .holds);
+            holds = holds-after edition32 (rowAt (t .table)) 4294967295 pre (listedOf at) (us ++ ps) (written .holds);
             below = all-after (λ j. j < rowsOfTables t) pre (listedOf at) (us ++ ps) below-all;
             there =
                 all-map (rowsIn us) (λ j h. not-true (isEmpty (capOf (t .table) j)) (h .1))
@@ -215,7 +208,7 @@ module _ (t : Tables) (well : wellFormed edition32 t ≡ true) (k : ℕ) where
             room = omega (arith, rows-small t well);
             long = form .tableLong;
             before = listedOf at .entry .row;
-            holds = holds-after (rowAt (t .table)) 4294967295 pre (listedOf at) (us ++ ps) (written .holds);
+            holds = holds-after edition32 (rowAt (t .table)) 4294967295 pre (listedOf at) (us ++ ps) (written .holds);
             distinct = distinct-after pre (listedOf at) (us ++ ps) distinct;
             below = all-after (λ j. j < rowsOfTables t) pre (listedOf at) (us ++ ps) below-all;
             deep = under-deep k f at;

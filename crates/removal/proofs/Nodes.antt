@@ -1,11 +1,11 @@
 -- What well-formed tables say of their CNodes, and that a set of rows is closed by the table's capabilities just if it is by the tree's entries.
-use Prim.Native.Nat.{ℕ, _+_, _-_, _/_, _≤_, _<_}
+use Prim.Native.Nat.{ℕ, _+_, _-_, _/_, _≤_}
 use mathlib.Core.Path.{_≡_, sym, _∙_, subst, ap}
 use mathlib.Core.Bool.{Bool, true, false}
 use native.Mathlib.Omega.{arith}
 use lib.Dec.{leb}
 use lib.ListN.{getD}
-use borrow.Author.Tests.{eqb-true, leb-true, leb-false, eq-eqb, ne-eqb}
+use borrow.Author.Tests.{leb-true, leb-false, eq-eqb, ne-eqb}
 use Rattle.model.specs.declared.Cap.{Cap}
 use Rattle.model.specs.Edition.{edition32}
 use Rattle.model.specs.Cap.{isEmpty, isUntyped, isCNode, firstRow, slots, limit, sameObject, houses}
@@ -20,18 +20,11 @@ use Rattle.model.proofs.Kept.Figures.{sane32, bytes-cnode}
 use Rattle.model.proofs.Kept.Memory.{Over, apart-over, typed-apart}
 use Rattle.model.proofs.Kept.Objects.{same-empty, same-parts}
 use Rattle.model.proofs.Kept.Removal.{Swept}
-use Rattle.model.proofs.Kept.Rules.{fine, known, entry-at, home-bound, slots-home}
+use Rattle.model.proofs.Kept.Rules.{fine, known, entry-at, allowed-at}
+use Rattle.model.proofs.Kept.Allowed.{cnode-filled, cnode-typed, some-slot, slots-bound}
+use Rattle.model.proofs.Words.Bounds.{rows-small, table-long}
 use Rattle.removal.specs.Marking.{Nodes, ClosedRows, rowCount}
-use Rattle.removal.proofs.Tables.{rowsOfTables, rows-small, table-long}
-use Rattle.removal.proofs.Spreading.{some-slot}
-
-pub cnode-there : (c : Cap) → isCNode c ≡ true → isEmpty c ≡ false
-unfolding isCNode isEmpty
-cnode-there c t = rw (eqb-true (c .kind) 5 t)
-
-cnode-typed : (c : Cap) → isCNode c ≡ true → isUntyped c ≡ false
-unfolding isCNode isUntyped
-cnode-typed c t = rw (eqb-true (c .kind) 5 t)
+use Rattle.removal.proofs.Tables.{rowsOfTables}
 
 -- the bytes that two CNodes with the same first row have in common
 limit-cnode : (c : Cap) → isCNode c ≡ true → c .address .0 + 16 ≤ limit edition32 c
@@ -50,15 +43,12 @@ meets c d t u e =
 
 module _ {m : ℕ} {f : Forest} (s : Sound edition32 m f) where
   inside : (k : ℕ) → isCNode (capAt f k) ≡ true → firstRow edition32 (capAt f k) + slots (capAt f k) ≤ rows edition32 m
-  inside k t =
-      let last = slots (capAt f k) - 1 in
-      let b : firstRow edition32 (capAt f k) + last < rows edition32 m = home-bound s sane32 _ (slots-home s k t last (omega (arith, some-slot (capAt f k)))) in
-      omega (arith, some-slot (capAt f k))
+  inside k t = slots-bound sane32 m (capAt f k) (allowed-at s k (cnode-filled (capAt f k) t)) t
 
   alike : (j k : ℕ) → isCNode (capAt f j) ≡ true → isCNode (capAt f k) ≡ true → firstRow edition32 (capAt f j) ≡ firstRow edition32 (capAt f k) → sameObject (capAt f j) (capAt f k) ≡ true
   alike j k t u e =
-      let (d, md, rd, qd) = entry-at s j (cnode-there (capAt f j) t) in
-      let (g, mg, rg, qg) = entry-at s k (cnode-there (capAt f k) u) in
+      let (d, md, rd, qd) = entry-at s j (cnode-filled (capAt f j) t) in
+      let (g, mg, rg, qg) = entry-at s k (cnode-filled (capAt f k) u) in
       let (p, o, q) = meets (capAt f j) (capAt f k) t u e in
       let td : isUntyped (d .cap) ≡ false = rw (← qd) (cnode-typed (capAt f j) t) in
       let tg : isUntyped (g .cap) ≡ false = rw (← qg) (cnode-typed (capAt f k) u) in
@@ -70,7 +60,7 @@ module _ {m : ℕ} {f : Forest} (s : Sound edition32 m f) where
       closed (n .row) (e .row) (fine s mn .inTable) (fine s me .inTable) (rw (known s mn) (houses-node (n .cap) (e .row) h)) (rw (known s mn) h) (rw (known s me) (fine s me .filled))
       (λ j b same.
       let same′ : sameObject (n .cap) (capAt f j) ≡ true = rw (known s mn) at same in
-      let there : isEmpty (capAt f j) ≡ false = sym (same-empty (same-parts (n .cap) (capAt f j) same′)) ∙ cnode-there (n .cap) (houses-node (n .cap) (e .row) h) in
+      let there : isEmpty (capAt f j) ≡ false = sym (same-empty (same-parts (n .cap) (capAt f j) same′)) ∙ cnode-filled (n .cap) (houses-node (n .cap) (e .row) h) in
       let (d, md, rd, qd) = entry-at s j there in
       subst (λ i. S i ≡ true) rd (names d md (rw (← qd) same′)))
     where
@@ -79,7 +69,7 @@ module _ {m : ℕ} {f : Forest} (s : Sound edition32 m f) where
 
   pub swept-closed : (S : ℕ → Bool) → Swept edition32 (entries f) (λ k. S k ≡ true) → ClosedRows (rows edition32 m) (capAt f) S
   swept-closed S swept c k bc bk node h o names =
-      let (n, mn, rn, qn) = entry-at s c (cnode-there (capAt f c) node) in
+      let (n, mn, rn, qn) = entry-at s c (cnode-filled (capAt f c) node) in
       let (e, me, re, qe) = entry-at s k o in
       subst (λ i. S i ≡ true) re
       (swept n e mn me (rw (← qn, re) h) (λ d md same.

@@ -6,7 +6,6 @@ use mathlib.Core.List.{List}
 use native.Mathlib.Omega.{arith}
 use lib.Dec.{leb, eqb}
 use lib.ListN.{getD}
-use lib.Pow.{pow-pos}
 use borrow.Author.Tests.{eqb-true, eqb-false, eq-eqb, ltb-true, not-true, not-false}
 use Rattle.model.specs.declared.Cap.{Cap}
 use Rattle.model.specs.Edition.{edition32}
@@ -14,6 +13,7 @@ use Rattle.model.specs.Cap.{isEmpty, isCNode, firstRow, slots, sameObject, hous
 use Rattle.model.proofs.Booleans.{either, or-cases, or-left, or-right, and-left, and-right, and-intro}
 use Rattle.model.proofs.Distinct.{count-zero, count-none}
 use Rattle.model.proofs.Kept.Objects.{same-parts, same-houses}
+use Rattle.model.proofs.Kept.Allowed.{some-slot}
 use Rattle.removal.specs.Marking.{marked, names, stillNames, Nodes, ClosedRows, Counted, Lost, Served, waits, emptied, Waiting, Marks, inNode, Spread}
 
 -- ---- two capabilities that name one CNode
@@ -29,10 +29,6 @@ same-first c d s = ap (λ a. a / 2 ^ 4) (same-parts c d s .addresses)
 houses-below : (c : Cap) (k : ℕ) → houses edition32 c k ≡ true → k < firstRow edition32 c + slots c
 unfolding houses
 houses-below c k h = ltb-true k (firstRow edition32 c + slots c) (and-right (isCNode c && leb (firstRow edition32 c) k) _ h)
-
-pub some-slot : (c : Cap) → 0 < slots c
-unfolding slots
-some-slot c = pow-pos (c .size)
 
 -- ---- growing
 

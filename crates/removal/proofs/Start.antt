@@ -9,9 +9,9 @@ use Rattle.model.specs.declared.Cap.{Cap}
 use Rattle.model.specs.Edition.{edition32}
 use Rattle.model.specs.Cap.{isCNode, firstRow}
 use Rattle.model.proofs.Distinct.{count-same, count-zero}
+use Rattle.model.proofs.Kept.Allowed.{some-slot}
 use Rattle.removal.specs.Marking.{marked, names, stillNames, Zeros, Tally, Nodes, Counted, Lost, Waiting}
 use Rattle.removal.proofs.Marking.{unmarked}
-use Rattle.removal.proofs.Spreading.{some-slot}
 
 pub none-marked : (mark : List ℕ) → Zeros 4096 mark → (k : ℕ) → marked mark k ≡ false
 none-marked mark z k = unmarked mark k (z .zeroAt k)

@@ -1,24 +1,23 @@
 -- From well-formed tables to the start of a walk along their list, and from its end to the tables without the marked rows.
-use Prim.Native.Nat.{ℕ, zero, suc, _-_, _*_, _≤_}
+use Prim.Native.Nat.{ℕ, zero, suc, _-_}
 use mathlib.Core.Path.{_≡_, refl, sym, ap, ap₂, _∙_}
 use mathlib.Core.Bool.{Bool, true, not}
-use mathlib.Core.List.{List, [], _∷_, map}
+use mathlib.Core.List.{List, [], _∷_}
 use native.Mathlib.Omega.{arith}
-use lib.Pow.{pow-mono}
-use lib.ListN.{getD, length, set, replicate, length-replicate}
+use lib.ListN.{getD, length, set, replicate, length-replicate, length-map}
 use Rattle.model.specs.Edition.{edition32}
 use Rattle.model.specs.Lists.{member, count}
 use Rattle.model.specs.Cap.{isEmpty}
 use Rattle.model.specs.Tree.{Forest, entries, edit, without}
 use Rattle.model.specs.Tables.{Tables, Listed, rows, capOf, read, write, listing, rowsFrom, firstOf}
-use Rattle.model.specs.Rules.{wellFormed, mInRange}
-use Rattle.model.proofs.Booleans.{within-parts}
+use Rattle.model.specs.Rules.{wellFormed}
 use Rattle.model.proofs.Members.{all-map}
 use Rattle.model.proofs.Distinct.{count-most}
 use Rattle.model.proofs.Words.Rows.{rowsIn}
 use Rattle.model.proofs.Words.Listing.{listing-grown}
 use Rattle.model.proofs.Words.ReadWrite.{entries-listing}
 use Rattle.model.proofs.Words.WellFormed.{Formed, formed, formed-distinct, formed-written, roomy32, listIn}
+use Rattle.model.proofs.Words.Bounds.{rows-small}
 use Rattle.removal.specs.Marking.{marked, Zeros}
 use Rattle.removal.specs.Removing.{Thins}
 use Rattle.removal.proofs.Thinning.{thinned, thinned-listing}
@@ -39,28 +38,12 @@ zeros n = record { long = length-replicate n 0; zeroAt = getD-zeros n }
 abbrev pub rowsOfTables : Tables → ℕ
 rowsOfTables t = rows edition32 (getD (t .control) 0 0)
 
-pub rows-few : (m : ℕ) → mInRange edition32 m ≡ true → rows edition32 m ≤ 4096
-unfolding mInRange rows
-rows-few m h =
-    let (low, high) = within-parts 10 m 16 h in
-    pow-mono {i = m - 4} {j = 12} (omega arith)
-
-long : (xs : List Listed) → length (map (λ x. x .entry) xs) ≡ length xs
-long [] = refl
-long (x ∷ xs) = ap suc (long xs)
-
 pub entries-long : (g : Forest) → length (entries g) ≡ length (listing 0 g)
-entries-long g = ap length (sym (entries-listing g 0)) ∙ long (listing 0 g)
+entries-long g = ap length (sym (entries-listing g 0)) ∙ length-map (listing 0 g) (λ x. x .entry)
 
 module _ (t : Tables) (well : wellFormed edition32 t ≡ true) where
   form : Formed edition32 t (listIn edition32 t)
   form = formed edition32 roomy32 t well
-
-  pub rows-small : rowsOfTables t ≤ 4096
-  rows-small = rows-few (getD (t .control) 0 0) (form .mRange)
-
-  pub table-long : length (t .table) ≡ 8 * rowsOfTables t
-  table-long = form .tableLong
 
   pub list-read : listing 0 (read edition32 t .forest) ≡ listIn edition32 t
   unfolding read

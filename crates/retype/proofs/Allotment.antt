@@ -20,8 +20,8 @@ use Rattle.model.proofs.Words.WellFormed.{roomy32, write-read}
 use Rattle.model.proofs.Words.Caps.{caps-read}
 use Rattle.model.proofs.Words.Descendants.{children-test}
 use Rattle.model.proofs.Kept.Allowed.{untyped-filled}
-use Rattle.model.proofs.Transfer.Held.{held-at, held-fits}
-use Rattle.model.proofs.Transfer.Outcome.{comes-refused, comes-done}
+use Rattle.model.proofs.Words.Held.{held-at, held-fits}
+use Rattle.model.proofs.Outcome.{comes-refused, comes-done}
 use Rattle.model.proofs.Retype.Allotted.{write-allotted}
 use Rattle.table.specs.Children.{deeperNext}
 use Rattle.retype.specs.Allotting.{memoryFor, Bounded, Vacant, allotting}

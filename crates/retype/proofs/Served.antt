@@ -15,7 +15,7 @@ use Rattle.model.specs.Operations.{start, allot, retype}
 use Rattle.model.specs.Request.{Outcome, carriedOut}
 use Rattle.model.proofs.Words.WellFormed.{roomy32}
 use Rattle.model.proofs.Words.Caps.{caps-read}
-use Rattle.model.proofs.Transfer.Outcome.{comes-refused, comes-same}
+use Rattle.model.proofs.Outcome.{comes-refused, comes-same}
 use Rattle.lookup.specs.Ready.{Ready, Usable}
 use Rattle.lookup.proofs.WellFormed.{ready}
 use Rattle.retype.specs.Allotting.{Retypable, Vacant, allotting}

@@ -8,7 +8,6 @@ use table::size::pow2;
 ghost use mathlib.Core.Path.{_≡_};
 ghost use Prim.Native.Nat.{_+_, _≤_};
 ghost use Rattle.model.specs.Edition.{edition32};
-ghost use Rattle.model.specs.Cap as cap;
 ghost use Rattle.model.specs.Operations as spec;
 ghost use Rattle.retype.specs.Answers.{ofJudged};
 ghost use Rattle.retype.specs.Window as tests;

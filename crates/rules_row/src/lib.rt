@@ -18,7 +18,7 @@ ghost use Prim.Native.Nat.{_+_, _*_, _≤_, _<_};
 ghost use lib.Dec.{eqb, leb};
 ghost use lib.ListN.{length};
 ghost use Rattle.model.specs.Edition.{edition32};
-ghost use Rattle.model.specs.Cap.{isEmpty, isUntyped, isCNode, rightsOf};
+ghost use Rattle.model.specs.Cap.{isUntyped};
 ghost use Rattle.model.specs.Tables.{rows};
 ghost use Rattle.model.specs.Rules as rules;
 

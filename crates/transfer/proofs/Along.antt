@@ -18,14 +18,14 @@ use Rattle.model.specs.Rules.{wellFormed}
 use Rattle.model.specs.Operations.{full, fresh}
 use Rattle.model.specs.Request.{carriedOut}
 use Rattle.model.proofs.Words.WellFormed.{roomy32}
-use Rattle.model.proofs.Transfer.Outcome.{comes-refused, comes-done}
+use Rattle.model.proofs.Outcome.{comes-refused, comes-done}
 use Rattle.model.proofs.Transfer.Copied.{write-copied}
 use Rattle.model.proofs.Transfer.Next.{children-words}
 use Rattle.table.specs.Children.{deeperNext}
 use Rattle.transfer.specs.declared.ways.Way.{Way}
 use Rattle.transfer.specs.Places.{after}
 use Rattle.transfer.specs.Ways.{copied, copyAlong, Along}
-use Rattle.transfer.proofs.Bounds.{row-below}
+use Rattle.model.proofs.Words.Bounds.{row-below}
 
 -- on well-formed tables the test of the next row is that of children
 children : (t : Tables) → wellFormed edition32 t ≡ true → (k : ℕ) → isEmpty (capOf (t .table) k) ≡ false → deeperNext (t .table) k ≡ hasChildren (read edition32 t .forest) k

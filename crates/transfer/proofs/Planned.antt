@@ -14,15 +14,14 @@ use Rattle.model.specs.Tables.{Tables, capOf, read}
 use Rattle.model.specs.Rules.{wellFormed}
 use Rattle.model.specs.Operations.{Done, find, vacant, present, copy, move}
 use Rattle.model.specs.Request.{Outcome, carriedOut}
+use Rattle.model.specs.Stores.{movedTables}
 use Rattle.model.proofs.Words.WellFormed.{roomy32}
 use Rattle.model.proofs.Words.Caps.{caps-read}
-use Rattle.model.proofs.Words.Moved.{movedTables}
-use Rattle.model.proofs.Transfer.Checks.{bind-bind, then-bind}
-use Rattle.model.proofs.Transfer.Outcome.{comes-refused, comes-done, comes-same}
+use Rattle.model.proofs.Outcome.{comes-refused, comes-done, comes-same, bind-bind, then-bind}
 use Rattle.model.proofs.Transfer.Relocated.{write-relocated}
 use Rattle.transfer.specs.declared.ways.Way.{Way}
 use Rattle.transfer.specs.Ways.{freeSlot, heldSlot, way, copied, copyAlong, relocated, Open}
-use Rattle.transfer.proofs.Bounds.{row-below}
+use Rattle.model.proofs.Words.Bounds.{row-below}
 
 copy-is : (E : Edition) (f : Forest) (dest source : Place) (how : Change) → copy E f dest source how ≡ (way E (capAt f) dest source how >>= copyAlong E f)
 unfolding copy way freeSlot heldSlot copyAlong copied find vacant present _>>=_ _>>_

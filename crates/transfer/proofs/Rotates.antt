@@ -13,17 +13,16 @@ use Rattle.model.specs.Tables.{Tables, capOf, read}
 use Rattle.model.specs.Rules.{wellFormed}
 use Rattle.model.specs.Operations.{Done, find, present, rotate}
 use Rattle.model.specs.Request.{carriedOut}
+use Rattle.model.specs.Stores.{movedTables, exchangedTables}
 use Rattle.model.proofs.Words.WellFormed.{roomy32}
 use Rattle.model.proofs.Words.Caps.{caps-read}
-use Rattle.model.proofs.Words.Moved.{movedTables}
-use Rattle.model.proofs.Transfer.Checks.{bind-bind, then-bind}
-use Rattle.model.proofs.Transfer.Outcome.{comes-refused, comes-done}
-use Rattle.model.proofs.Transfer.Turned.{exchangedTables, write-turned, write-exchanged}
+use Rattle.model.proofs.Outcome.{comes-refused, comes-done, bind-bind, then-bind}
+use Rattle.model.proofs.Transfer.Turned.{write-turned, write-exchanged}
 use Rattle.transfer.specs.declared.turns.Rows.{Rows}
 use Rattle.transfer.specs.declared.turns.Turn.{Turn}
 use Rattle.transfer.specs.Places.{after}
 use Rattle.transfer.specs.Turns.{threeRows, turnCaps, turn, turned, InRows, Turnable, Turns}
-use Rattle.transfer.proofs.Bounds.{row-below}
+use Rattle.model.proofs.Words.Bounds.{row-below}
 
 -- ---- the stores
 

@@ -9,11 +9,8 @@ use lib.Seq.{set-getD}
 use borrow.Author.Tests.{eq-eqb, ne-eqb}
 use Rattle.model.specs.declared.Cap.{Cap}
 use Rattle.model.specs.Edition.{edition32}
-use Rattle.model.specs.Stores.{linked, unlinked}
+use Rattle.model.specs.Stores.{linked, unlinked, movedTables, swapped, exchangedTables}
 use Rattle.model.specs.Tables.{Tables, lent, word}
-use Rattle.model.proofs.Words.Moved.{movedTables}
-use Rattle.model.proofs.Words.Swapped.{swapped}
-use Rattle.model.proofs.Transfer.Turned.{exchangedTables}
 
 -- ---- an entry moved; the head of the list moves with its row
 

@@ -2,7 +2,6 @@
 -- Assumes nothing.
 use mathlib.Core.Path.{refl, sym, _∙_}
 use borrow.Author.Needs.{needs}
-use Rattle.model.specs.Edition.{edition32}
 use Rattle.model.specs.Request.{orFault}
 use Rattle.lookup.proofs.Finding.{finds-row, finds-refusal}
 use Rattle.lookup.proofs.named.Statement.{statement}

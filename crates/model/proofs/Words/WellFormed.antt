@@ -7,7 +7,7 @@ use mathlib.Core.List.{List, [], _∷_, map}
 use mathlib.Core.Logic.{_⊎_, inl, inr}
 use native.Mathlib.Omega.{arith}
 use lib.Dec.{eqb}
-use lib.ListN.{length, getD}
+use lib.ListN.{length, getD, length-map}
 use lib.Pow.{pow-mono}
 use borrow.Author.Tests.{eq-eqb, eqb-true, eqb-false, not-true, not-false}
 use Rattle.model.specs.Lists.{allTrue, count}
@@ -17,7 +17,7 @@ use Rattle.model.specs.Tree.{Entry, entries}
 use Rattle.model.specs.Tables.{Listed, State, Tables, rows, capOf, firstOf, zeroRow, rowsFrom, follow, grown, listing, read, write}
 use Rattle.model.specs.Rules.{mInRange, rInRange, lengthsFit, controlAllowed, capAllowed, rowAllowed, occupied, tableAllowed, forestAllowed, wellFormed}
 use Rattle.model.proofs.Booleans.{and-left, and-right, and-intro, part, within-parts}
-use Rattle.model.proofs.Members.{All, all-map, length-map}
+use Rattle.model.proofs.Members.{All, all-map}
 use Rattle.model.proofs.Distinct.{Fresh, Distinct, listed-all, count-listed}
 use Rattle.model.proofs.State.{Fits, Fine, Good}
 use Rattle.model.proofs.Words.Listing.{listing-grown, steps-listing}
@@ -94,7 +94,7 @@ module _ (E : Edition) (t : Tables) (xs : List Listed) (w : Formed E t xs) where
             row-empty E (getD (t .control) 0 0) (t .table) k (w .eachRow k h)
             (not-false (isEmpty (capOf (t .table) k))
             (listed-all (rowsIn xs) (λ j. not (isEmpty (capOf (t .table) j))) (rows E (getD (t .control) 0 0)) formed-distinct (w .chained .taken)
-            (length-map (λ x. x .entry .row) xs ∙ w .chained .long ∙ w .counted) k h f));
+            (length-map xs (λ x. x .entry .row) ∙ w .chained .long ∙ w .counted) k h f));
       }
 
 four : (c : List ℕ) → length c ≡ 4 → getD c 0 0 ∷ getD c 1 0 ∷ getD c 2 0 ∷ getD c 3 0 ∷ [] ≡ c
@@ -208,7 +208,7 @@ unfolding isEmpty capOf zeroRow occupied
 count-formed E n t xs w d a =
     sym
     (count-listed (rowsIn xs) (λ k. not (isEmpty (capOf t k))) n d a (λ k h f. ap (λ (r : List ℕ). not (isEmpty (capFrom r))) (w .others k h f))
-    ∙ length-map (λ x. x .entry .row) xs)
+    ∙ length-map xs (λ x. x .entry .row))
 
 pub formed-write : (E : Edition) → Roomy E → (s : State) → Good E s → wellFormed E (write E s) ≡ true
 unfolding wellFormed controlAllowed lengthsFit tableAllowed forestAllowed write allTrue

@@ -4,7 +4,7 @@ use native.Mathlib.Omega.{arith}
 use borrow.Author.Needs.{needs}
 use Rattle.model.specs.Operations.{full}
 use Rattle.model.specs.Edition.{edition32}
-use Rattle.transfer.proofs.Bounds.{count-small, depth-small, size-small}
+use Rattle.model.proofs.Words.Bounds.{count-small, depth-small, size-small}
 use Rattle.transfer.proofs.Along.{copies}
 use Rattle.transfer.proofs.copied.Statement.{statement}
 use Rattle.transfer.proofs.copied.Tie as tie
@@ -21,7 +21,7 @@ cap-at-requires c κs = search needs
 full-requires : tie.Need-full-requires
 full-requires c κs =
     let start = c .before .before .before .before .before .before .before in
-    rw (c .cap-at .ensures) (size-small _ (start .pre .formed) _ (start .pre .way .held) (start .pre .way .fromIn))
+    rw (c .cap-at .ensures) (λ untyped. omega (arith, size-small _ (start .pre .formed) _ (start .pre .way .fromIn) untyped))
 
 put-cap-requires : tie.Need-put-cap-requires
 put-cap-requires c κs = search needs

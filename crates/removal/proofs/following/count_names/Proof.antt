@@ -11,8 +11,8 @@ use denote.Ref.{now}
 use Rattle.model.specs.Edition.{edition32}
 use Rattle.model.specs.Cap.{isCNode, firstRow}
 use Rattle.model.specs.Tables.{capOf}
+use Rattle.model.proofs.Kept.Allowed.{some-slot}
 use Rattle.removal.specs.Marking.{rowCount, Tally}
-use Rattle.removal.proofs.Spreading.{some-slot}
 use Rattle.removal.proofs.Tallying.{tally-none, tally-plain, tally-few, tally-node}
 use Rattle.removal.proofs.following.count_names.Statement.{statement}
 use Rattle.removal.proofs.following.count_names.Tie as tie

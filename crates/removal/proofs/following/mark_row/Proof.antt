@@ -10,9 +10,9 @@ use denote.Ref.{now}
 use Rattle.model.specs.Edition.{edition32}
 use Rattle.model.specs.Cap.{isEmpty, isCNode, firstRow, slots}
 use Rattle.model.specs.Tables.{capOf}
+use Rattle.model.proofs.Kept.Allowed.{some-slot}
 use Rattle.removal.specs.Marking.{rowCount, marked}
 use Rattle.removal.proofs.Marking.{unmarked, is-marked, left-some, room-left}
-use Rattle.removal.proofs.Spreading.{some-slot}
 use Rattle.removal.proofs.Marks.{marks-empty, marks-old, marks-plain, marks-node, marks-last}
 use borrow.Author.Needs.{needs}
 use Rattle.removal.proofs.following.mark_row.Statement.{statement}

@@ -11,8 +11,8 @@ use Rattle.model.specs.Tables.{Tables, read}
 use Rattle.model.proofs.Words.Around.{At}
 use Rattle.model.proofs.Words.Edited.{listedUnder}
 use Rattle.model.proofs.Words.Runs.{raisedRun}
+use Rattle.model.proofs.Words.Bounds.{table-long}
 use Rattle.removal.specs.Marking.{rowCount}
-use Rattle.removal.proofs.Tables.{table-long}
 use Rattle.removal.proofs.Descent.{place, raised-start, row-below-n}
 use Rattle.removal.proofs.Raising.{there-of, Raised, raised-as, raised-table, raised-long, raised-spent, raised-end, raised-low, raised-row, raised-step}
 use Rattle.removal.proofs.single.raise_descendants.Statement.{statement}

@@ -9,10 +9,11 @@ use lib.ListN.{length, getD, set}
 use denote.Ref.{now}
 use Rattle.model.specs.Edition.{edition32}
 use Rattle.model.specs.Stores.{unlinked}
+use Rattle.model.proofs.Words.Bounds.{rows-small, table-long}
 use Rattle.removal.specs.Marking.{marked}
 use Rattle.removal.proofs.Marking.{unmarked, is-marked}
 use Rattle.removal.proofs.Walking.{Walked, walk-row, walk-small, walk-level, walk-long, walk-few, walk-fit, walk-as, walk-drop, walk-keep}
-use Rattle.removal.proofs.Tables.{whole, zeros, rowsOfTables, rows-small, table-long, walk-start, thins}
+use Rattle.removal.proofs.Tables.{whole, zeros, rowsOfTables, walk-start, thins}
 use Rattle.removal.proofs.survivors.thin.Statement.{statement}
 use Rattle.removal.proofs.survivors.thin.Tie as tie
 

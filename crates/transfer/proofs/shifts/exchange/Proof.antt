@@ -2,8 +2,8 @@
 use mathlib.Core.Path.{ap, _∙_}
 use denote.Ref.{now}
 use borrow.Author.Needs.{needs}
-use Rattle.model.proofs.Words.Swapped.{swapped}
 use Rattle.model.specs.Tables.{lent}
+use Rattle.model.specs.Stores.{swapped}
 use Rattle.transfer.proofs.Stored.{exchanges}
 use Rattle.transfer.proofs.shifts.exchange.Statement.{statement}
 use Rattle.transfer.proofs.shifts.exchange.Tie as tie
