@@ -80,7 +80,7 @@ module _ (t : Tables) (well : wellFormed edition32 t ≡ true) (k : ℕ) where
         tables = sym same-tables ∙ ap (λ (g : Forest). write edition32 (record { m = read edition32 t .m; r = read edition32 t .r; forest = g })) (sym (ap (λ (ks : List ℕ). edit (without ks) f) (removed-none edition32 (entries f)) ∙ edit-none f));
       })
 
-  module _ (there : isEmpty (capAt f k) ≡ false) (lone : goesAlone (capOf (t .table)) k (rowCount (t .table)) ≡ true) where
+  module _ (there : isEmpty (capAt f k) ≡ false) (lone : goesAlone (capOf (t .table)) (rowCount (t .table)) k ≡ true) where
     abbrev R : List ℕ
     R = removed edition32 (entries f) (k ∷ [])
 
@@ -98,7 +98,7 @@ module _ (t : Tables) (well : wellFormed edition32 t ≡ true) (k : ℕ) where
     alone n e mn me h names =
         let only : (d : Entry) → Has d (entries f) → sameObject (n .cap) (d .cap) ≡ true → d .row ≡ k = λ d md same. List·Memᴰ·eq-of-singleton (member-has (d .row) (k ∷ []) (names d md same)) in
         let c : capAt f k ≡ n .cap = ap (capAt f) (sym (only n mn (same-refl (n .cap)))) ∙ known (sound t well) mn in
-        let (j, l, j-other, j-same) = elsewhere (capAt f) k (rowsOfTables t) (rw (caps t well, row-count t well) at lone) (ap isCNode c ∙ node-of (n .cap) (e .row) h) in
+        let (j, j-other, j-same) = elsewhere (capAt f) (rowsOfTables t) k (rw (caps t well, row-count t well) at lone) (ap isCNode c ∙ node-of (n .cap) (e .row) h) in
         let (d, md, other, same) = entry-of j j-other j-same in
         absurd (other (only d md (subst (λ x. sameObject x (d .cap) ≡ true) c same)))
 

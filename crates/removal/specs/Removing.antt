@@ -48,17 +48,17 @@ pub record Removes (t t′ : Tables) (start : List ℕ) (gone : ℕ) : Type 0 wh
 
 -- ---- one row by itself
 
--- row j, another than row k, names what row k names
-unfoldable pub alsoNames : (ℕ → Cap) → (k j : ℕ) → Bool
-alsoNames cap k j = not (eqb j k) && sameObject (cap k) (cap j)
+-- row j is one of n, another than row k, and names what row k names
+unfoldable pub alsoNames : (ℕ → Cap) → (n k j : ℕ) → Bool
+alsoNames cap n k j = ltb j n && not (eqb j k) && sameObject (cap k) (cap j)
 
--- one of n rows does
-unfoldable pub namedElsewhere : (ℕ → Cap) → (k n : ℕ) → Bool
-namedElsewhere cap k n = ltb 0 (count (alsoNames cap k) n)
+-- one of n rows is
+unfoldable pub namedElsewhere : (ℕ → Cap) → (n k : ℕ) → Bool
+namedElsewhere cap n k = ltb 0 (count (alsoNames cap n k) n)
 
 -- nothing follows row k: it names no CNode, or one that another of n rows names too
-unfoldable pub goesAlone : (ℕ → Cap) → (k n : ℕ) → Bool
-goesAlone cap k n = not (isCNode (cap k)) || namedElsewhere cap k n
+unfoldable pub goesAlone : (ℕ → Cap) → (n k : ℕ) → Bool
+goesAlone cap n k = not (isCNode (cap k)) || namedElsewhere cap n k
 
 unfoldable pub occupied : Tables → (k : ℕ) → Bool
 occupied t k = not (isEmpty (capAt (read edition32 t .forest) k))

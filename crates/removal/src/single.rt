@@ -17,17 +17,38 @@ ghost use Rattle.model.specs.Rules.{wellFormed};
 ghost use Rattle.removal.specs.Marking as marking;
 ghost use Rattle.removal.specs.Removing as removing;
 
-// Another row names the object that a row names.
+// A row of the table, another than the given one, names what that one names.
+fn also_names(t: &[u32], row: u32, other: u32) -> bool
+    requires { ⌜ row < marking.rowCount (now t) ⌝ }
+    requires { ⌜ marking.rowCount (now t) ≤ 4096 ⌝ }
+    ensures { λ r. ⌜ r ≡ removing.alsoNames (capOf (now (t .entry))) (marking.rowCount (now (t .entry))) row other ⌝ }
+{
+    let rows = (t.len() / 8) as u32;
+    if rows <= other {
+        return false;
+    }
+    if other == row {
+        return false;
+    }
+    same_object(cap_at(t, Row(row)), cap_at(t, Row(other)))
+}
+
+// Another row names the object that a row names. A copy stands beside its source in the list, so the rows beside are asked first.
 fn named_elsewhere(t: &[u32], row: u32) -> bool
     requires { ⌜ row < marking.rowCount (now t) ⌝ }
     requires { ⌜ marking.rowCount (now t) ≤ 4096 ⌝ }
-    ensures { λ r. ⌜ r ≡ removing.namedElsewhere (capOf (now (t .entry))) row (marking.rowCount (now (t .entry))) ⌝ }
+    ensures { λ r. ⌜ r ≡ removing.namedElsewhere (capOf (now (t .entry))) (marking.rowCount (now (t .entry))) row ⌝ }
 {
-    let cap = cap_at(t, Row(row));
+    if also_names(t, row, word(t, Row(row), 6)) {
+        return true;
+    }
+    if also_names(t, row, word(t, Row(row), 5)) {
+        return true;
+    }
     let rows = (t.len() / 8) as u32;
     let mut other: u32 = 0;
     while other < rows {
-        if other != row && same_object(cap, cap_at(t, Row(other))) {
+        if also_names(t, row, other) {
             return true;
         }
         other += 1;
@@ -39,7 +60,7 @@ fn named_elsewhere(t: &[u32], row: u32) -> bool
 pub fn goes_alone(t: &[u32], row: u32) -> bool
     requires { ⌜ row < marking.rowCount (now t) ⌝ }
     requires { ⌜ marking.rowCount (now t) ≤ 4096 ⌝ }
-    ensures { λ r. ⌜ r ≡ removing.goesAlone (capOf (now (t .entry))) row (marking.rowCount (now (t .entry))) ⌝ }
+    ensures { λ r. ⌜ r ≡ removing.goesAlone (capOf (now (t .entry))) (marking.rowCount (now (t .entry))) row ⌝ }
 {
     word(t, Row(row), 0) != CNODE || named_elsewhere(t, row)
 }
