@@ -7,6 +7,8 @@ use crate::output::put_text;
 use crate::show::put_answer;
 use crate::show::show;
 use crate::tree::draw;
+use table::figures::m_in_range;
+use table::figures::table_words;
 ghost use mathlib.Core.Path.{_≡_};
 ghost use lib.ListN.{length};
 
@@ -126,13 +128,10 @@ fn clear(words: &mut [u32]) {
 
 // The words of a table for an m in Boot's range, else 0.
 fn words_for(m: u32) -> usize {
-    if m < 10 {
+    if !m_in_range(m) {
         return 0;
     }
-    if 16 < m {
-        return 0;
-    }
-    8usize << (m - 4)
+    table_words(m)
 }
 
 // The first words of the table become 0 and are lent, if it has as many; else what was lent stays so.

@@ -10,21 +10,21 @@ use lib.Dec.{eqb}
 use borrow.Author.Tests.{eqb-true}
 use Rattle.model.specs.declared.Answer.the-variants.{Success, RangeError, BadTables}
 use Rattle.model.specs.Edition.{edition32}
-use Rattle.model.specs.Lists.{within}
 use Rattle.model.specs.Check.{refuse, _>>_}
 use Rattle.model.specs.Tables.{Tables, rows, write}
 use Rattle.model.specs.Rules.{mInRange, greatestR, rInRange, lengthsFit}
 use Rattle.model.specs.Request.{concluded, booted, boot}
 use Rattle.model.proofs.Booleans.{and-left, and-right, within-parts}
 use Rattle.model.proofs.Words.Booted.{control-booted}
+use Rattle.table.proofs.Ranges.{m-least, m-most}
 use Rattle.core.specs.Booting.{Range, bootTable}
 
-pub in-range : (m r : ℕ) → within 10 m 16 ≡ true → within 4 r (greatestR edition32 m) ≡ true → Range m r
-unfolding greatestR
+pub in-range : (m r : ℕ) → mInRange edition32 m ≡ true → rInRange edition32 m r ≡ true → Range m r
+unfolding rInRange greatestR
 in-range m r ranged rangedR =
-    let p = within-parts 10 m 16 ranged in
     let q = within-parts 4 r (greatestR edition32 m) rangedR in
-    record { leastM = p .0; greatestM = p .1; leastR = q .0; greatestR = omega arith; room = omega arith }
+    let least = m-least m ranged in
+    record { leastM = least; greatestM = m-most m ranged; leastR = q .0; greatestR = omega arith; room = omega arith }
 
 -- all four control words stored
 pub four-stored : (ws : List ℕ) (a b c d : ℕ) → length ws ≡ 4 → set (set (set (set ws 0 a) 1 b) 2 c) 3 d ≡ a ∷ b ∷ c ∷ d ∷ []
@@ -43,23 +43,23 @@ lengths m t fit = (
 )
 
 module _ (t : Tables) (m r : ℕ) where
-  pub m-out-of-range : within 10 m 16 ≡ false → record { answer = RangeError 10 16; tables = t } ≡ boot edition32 t m r
-  unfolding boot refuse _>>_ concluded mInRange
+  pub m-out-of-range : mInRange edition32 m ≡ false → record { answer = RangeError 10 16; tables = t } ≡ boot edition32 t m r
+  unfolding boot refuse _>>_ concluded
   m-out-of-range out = rw out
 
-  module _ (ranged : within 10 m 16 ≡ true) where
-    pub r-out-of-range : within 4 r (greatestR edition32 m) ≡ false → record { answer = RangeError 4 (greatestR edition32 m); tables = t } ≡ boot edition32 t m r
-    unfolding boot refuse _>>_ concluded mInRange rInRange
+  module _ (ranged : mInRange edition32 m ≡ true) where
+    pub r-out-of-range : rInRange edition32 m r ≡ false → record { answer = RangeError 4 (greatestR edition32 m); tables = t } ≡ boot edition32 t m r
+    unfolding boot refuse _>>_ concluded
     r-out-of-range out = rw (ranged, out)
 
-    module _ (rangedR : within 4 r (greatestR edition32 m) ≡ true) where
+    module _ (rangedR : rInRange edition32 m r ≡ true) where
       pub other-length : lengthsFit edition32 m t ≡ false → record { answer = BadTables; tables = t } ≡ boot edition32 t m r
-      unfolding boot refuse _>>_ concluded mInRange rInRange
+      unfolding boot refuse _>>_ concluded
       other-length other = rw (ranged, rangedR, other)
 
       pub fresh-host : lengthsFit edition32 m t ≡ true
           → record { answer = Success 0; tables = record { table = bootTable m r; control = m ∷ r ∷ 0 ∷ (m - r - 3) ∷ [] } } ≡ boot edition32 t m r
-      unfolding boot refuse _>>_ concluded mInRange rInRange bootTable
+      unfolding boot refuse _>>_ concluded bootTable
       fresh-host fit =
           rw (ranged, rangedR, fit)
           (ap (λ (ws : List ℕ). record { answer = Success 0; tables = record { table = write edition32 (booted edition32 m r) .table; control = ws } }) control)

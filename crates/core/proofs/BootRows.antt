@@ -9,7 +9,7 @@ use native.Mathlib.Omega.{arith}
 use lib.Dec.{eqb, lit<}
 use lib.ListN.{getD, length, set}
 use lib.Seq.{getD-set-same, getD-set-other}
-use lib.Pow.{pow-mono, shl-exact}
+use lib.Pow.{shl-exact}
 use borrow.Author.Tests.{eq-eqb, ne-eqb}
 use Rattle.model.specs.Edition.{edition32}
 use Rattle.model.specs.Tables.{rows, zeroRow, listing, write}
@@ -22,11 +22,6 @@ use Rattle.core.specs.Booting.{Range, bootTable}
 -- 2^e in a word of 32 bits
 shifted : (e : ℕ) → e < 32 → (1 * 2 ^ e) % 4294967296 ≡ 2 ^ e
 shifted e h = shl-exact {a = 1} 1 e 32 (lit< tt) (omega arith) ∙ one-mul (2 ^ e)
-
--- no table has more than 4096 rows
-pub rows-most : (m : ℕ) → m ≤ 16 → rows edition32 m ≤ 4096
-unfolding rows
-rows-most m h = pow-mono {i = m - 4} {j = 12} (omega arith)
 
 module _ (m r : ℕ) (range : Range m r) where
   row-zero : 0 < rows edition32 m → 5 ∷ 0 ∷ r ∷ 0 ∷ (32 - r) ∷ 1 ∷ 4294967295 ∷ 0 ∷ [] ≡ rowAt (bootTable m r) 0

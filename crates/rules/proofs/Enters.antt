@@ -11,20 +11,16 @@ use Rattle.model.specs.declared.Cap.{Cap}
 use Rattle.model.specs.Edition.{edition32}
 use Rattle.model.specs.Cap.{isUntyped, exponent, bytes, limit, sameObject}
 use Rattle.model.specs.Tables.{rows, capOf}
-use Rattle.model.specs.Rules.{mInRange, capAllowed, insideBelow}
-use Rattle.model.proofs.Booleans.{within-parts}
+use Rattle.model.specs.Rules.{capAllowed, insideBelow}
 use Rattle.model.proofs.Kept.Allowed.{limit-of}
 use Rattle.model.proofs.Kept.Figures.{sane32}
 use Rattle.model.proofs.Kept.Powers.{exponent-le}
 use Rattle.model.proofs.Words.Chain.{rows-at, row-taken}
+use Rattle.table.proofs.Ranges.{m-most}
 use Rattle.rules.specs.Owners.{firstCell, cells, ownedBy, took, kept, capUp, beside, enter}
 use Rattle.rules.specs.Checked.{Occupied}
 use Rattle.rules.proofs.Cells.{Celled}
 use Rattle.rules.proofs.Celling.{celled-of}
-
-pub m-most : (m : ℕ) → mInRange edition32 m ≡ true → m ≤ 16
-unfolding mInRange
-m-most m h = within-parts 10 m 16 h .1
 
 -- ---- the row
 

@@ -1,26 +1,26 @@
 -- What the check of rows against rows computes is the rule on the tree that is read.
-use Prim.Native.Nat.{ℕ, zero, suc, _-_, _≤_, _<_}
+use Prim.Native.Nat.{ℕ, zero, suc, _≤_, _<_}
 use mathlib.Core.Path.{_≡_, refl, sym, ap, _∙_, subst}
 use mathlib.Core.Bool.{Bool, true, false, not, _&&_}
 use mathlib.Core.List.{List, [], List·Memᴰ·not-nil}
 use native.Mathlib.Omega.{arith}
 use lib.ListN.{getD, length, replicate, length-replicate, getD-replicate}
 use borrow.Author.Tests.{eq-eqb, eqb-true}
-use lib.Pow.{pow-mono}
 use Rattle.model.specs.declared.Cap.{Cap}
 use Rattle.model.specs.Lists.{allTrue, all, count}
 use Rattle.model.specs.Edition.{Edition, edition32}
 use Rattle.model.specs.Cap.{isEmpty, isUntyped}
 use Rattle.model.specs.Tree.{Forest, end, tree, entries, roots}
 use Rattle.model.specs.Tables.{rows, capOf, follow, grown}
-use Rattle.model.specs.Rules.{mInRange, rowsAllowed, occupied, insideBelow, housed, pairwise, childrenAllowed, familiesAllowed, forestAllowed}
-use Rattle.model.proofs.Booleans.{either, and-intro, within-parts}
+use Rattle.model.specs.Rules.{rowsAllowed, occupied, insideBelow, housed, pairwise, childrenAllowed, familiesAllowed, forestAllowed}
+use Rattle.model.proofs.Booleans.{either, and-intro}
 use Rattle.model.proofs.Kept.Figures.{Sane, sane32}
 use Rattle.model.proofs.Kept.Objects.{parts-inside}
 use Rattle.model.proofs.Kept.Allowed.{limit-of}
 use Rattle.model.proofs.Words.Listing.{listing-grown}
 use Rattle.model.proofs.Words.Chain.{Chain, chain}
 use Rattle.model.proofs.Words.WellFormed.{roomy32}
+use Rattle.table.proofs.Ranges.{m-least, rows-most}
 use Rattle.rules.specs.Owners.{memory, capUp, rowAbove, walk, judged}
 use Rattle.rules.specs.Checked.{Checked}
 use Rattle.rules.proofs.Cells.{Covers, Celled}
@@ -149,15 +149,11 @@ module _ {E : Edition} (sane : Sane E) (sixteen : E .slot ≡ 4) (m : ℕ) (t : 
 
 -- ---- at 32 bits
 
-pub rows-most : (m : ℕ) → mInRange edition32 m ≡ true → rows edition32 m ≤ 4096
-unfolding mInRange rows
-rows-most m h = pow-mono {i = m - 4} {j = 12} (omega (arith, within-parts 10 m 16 h .1))
-
 pub forest-judged : (m head n : ℕ) (t above : List ℕ) → Checked edition32 m head n t → 4096 ≤ length above
     → judged edition32 m t (walk edition32 m t above (replicate 4096 4294967295) (follow edition32 t n head)) ≡ forestAllowed edition32 (grown 0 (follow edition32 t n head))
-unfolding occupied mInRange
+unfolding occupied
 forest-judged m head n t above c h =
     let s = c .counts .scanned in
     let room = roomy32 .room m (s .mRange) in
-    walk-judged sane32 refl m t n head (omega (arith, within-parts 10 m 16 (s .mRange) .0)) room (s .each) (eqb-true n (occupied t (rows edition32 m)) (c .counts .counted))
+    walk-judged sane32 refl m t n head (omega (arith, m-least m (s .mRange))) room (s .each) (eqb-true n (occupied t (rows edition32 m)) (c .counts .counted))
     (chain edition32 m t n (edition32 .none) 0 head room (c .chain)) 4096 (rows-most m (s .mRange)) above (omega (arith, rows-most m (s .mRange)))

@@ -15,9 +15,10 @@ use Rattle.model.specs.Cap.{isEmpty}
 use Rattle.model.specs.Tables.{rows, word, capOf, follow}
 use Rattle.model.specs.Rules.{linkAllowed, listed, occupied}
 use Rattle.model.proofs.Booleans.{either, and-left, and-right, part}
+use Rattle.table.proofs.Ranges.{rows-most}
 use Rattle.rules.specs.Owners.{Owners, broken, owners, kept, goOn, enter, rowAbove, walk, homes, judged}
 use Rattle.rules.specs.Checked.{Checked}
-use Rattle.rules.proofs.Law.{count-le, rows-most}
+use Rattle.rules.proofs.Law.{count-le}
 
 pub rowAbove-top : (E : Edition) (above : List ℕ) (d : ℕ) → d ≡ 0 → E .none ≡ rowAbove E above d
 unfolding rowAbove

@@ -9,6 +9,10 @@ use model::UNTYPED;
 use rules_row::rows_allowed;
 use table::cap_at;
 use table::caps::same_object;
+use table::figures::lengths_fit;
+use table::figures::m_in_range;
+use table::figures::r_in_range;
+use table::figures::rows_of;
 use table::row_of;
 use table::size::bytes_of;
 use table::size::pow2;
@@ -25,37 +29,12 @@ ghost use Rattle.model.specs.Rules as rule;
 ghost use Rattle.rules.specs.Owners as spec;
 ghost use Rattle.rules.specs.Checked.{Scanned, Counted, Checked, Occupied};
 
-// The rows of memory of 2^m bytes.
-fn rows_of(m: u32) -> u32
-    requires { ⌜ rule.mInRange edition32 m ≡ true ⌝ }
-    ensures { λ r. ⌜ r ≡ tables.rows edition32 m ⌝ }
-{
-    pow2(m - 4) as u32
-}
-
 // The control words are in Boot's ranges, and the table has its length.
 fn control_allowed(table: &[u32], control: [u32; 4]) -> bool
     ensures { λ r. ⌜ r ≡ rule.controlAllowed edition32 (lent (now (table .entry)) control) ⌝ }
 {
     let m = control[0];
-    if m < 10 {
-        return false;
-    }
-    if 16 < m {
-        return false;
-    }
-    let r = control[1];
-    if r < 4 {
-        return false;
-    }
-    if 8 < r {
-        return false;
-    }
-    if m - 5 < r {
-        return false;
-    }
-    let rows = rows_of(m);
-    table.len() == 8 * rows as usize
+    m_in_range(m) && r_in_range(m, control[1]) && lengths_fit(table, &control, m)
 }
 
 // As many rows as the count are listed from the head, and then None.

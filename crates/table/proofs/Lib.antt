@@ -1,3 +1,4 @@
 mod Shift
 mod Children
 mod Objects
+pub mod Ranges

@@ -1,12 +1,10 @@
 -- Each way out is Boot's: what was tested before it decides which.
-use mathlib.Core.Path.{_≡_, sym, ap, _∙_}
+use mathlib.Core.Path.{_≡_, sym, _∙_}
 use mathlib.Core.Bool.{true}
 use native.Mathlib.Omega.{arith}
 use borrow.Author.Tests.{not-true, not-false}
 use Rattle.model.specs.Edition.{edition32}
-use Rattle.model.specs.Lists.{within}
-use Rattle.model.specs.Rules.{greatestR, lengthsFit}
-use Rattle.model.proofs.Booleans.{within-parts}
+use Rattle.model.specs.Rules.{mInRange, rInRange, lengthsFit}
 use Rattle.core.specs.Booting.{Range}
 use Rattle.core.proofs.BootAnswers.{m-out-of-range, r-out-of-range, in-range, lengths, four-stored, other-length, fresh-host}
 use borrow.Author.Needs.{needs}
@@ -14,14 +12,14 @@ use Rattle.core.proofs.boot.Statement.{statement}
 use Rattle.core.proofs.boot.Tie as tie
 
 -- m is in its range, then r in its, and the lengths fit
-m-ranged : (c : tie.Else1) → within 10 (c .before .before .before .args .m) 16 ≡ true
-m-ranged c = sym (c .before .within .ensures) ∙ not-false _ (c .if1 .left)
+m-ranged : (c : tie.Else1) → mInRange edition32 (c .before .before .before .args .m) ≡ true
+m-ranged c = sym (c .before .m-in-range .ensures) ∙ not-false _ (c .if1 .left)
 
 abbrev first : tie.Else2 → tie.Else1
-first c = c .before .before .before
+first c = c .before .before
 
-r-ranged : (c : tie.Else2) → within 4 (first c .before .before .before .args .r) (greatestR edition32 (first c .before .before .before .args .m)) ≡ true
-r-ranged c = ap (within 4 _) (sym (c .before .before .greatest-radix .ensures)) ∙ sym (c .before .within2 .ensures) ∙ not-false _ (c .if2 .left)
+r-ranged : (c : tie.Else2) → rInRange edition32 (first c .before .before .before .args .m) (first c .before .before .before .args .r) ≡ true
+r-ranged c = sym (c .before .r-in-range .ensures) ∙ not-false _ (c .if2 .left)
 
 abbrev second : tie.After-lengths-fit → tie.Else2
 second c = c .before .before .before .before
@@ -38,25 +36,25 @@ fit c = sym (c .before .lengths-fit .ensures) ∙ not-false _ (c .if3 .left)
 abbrev passed : tie.After-slice-known2 → tie.Else3
 passed c = c .before .before .before .before
 
-within-requires : tie.Need-within-requires
-within-requires c κs = search needs
+m-in-range-requires : tie.Need-m-in-range-requires
+m-in-range-requires c κs = search needs
 
 returns : tie.Need-returns
-returns c = m-out-of-range _ _ _ (sym (c .before .within .ensures) ∙ not-true _ (c .if1 .taken))
+returns c = m-out-of-range _ _ _ (sym (c .before .m-in-range .ensures) ∙ not-true _ (c .if1 .taken))
+
+r-in-range-requires : tie.Need-r-in-range-requires
+r-in-range-requires c κs = m-ranged c
 
 greatest-radix-requires : tie.Need-greatest-radix-requires
-greatest-radix-requires c κs = within-parts 10 _ 16 (m-ranged c)
-
-within-requires-2 : tie.Need-within-requires-2
-within-requires-2 c κs = search needs
+greatest-radix-requires c κs = m-ranged (c .before .before)
 
 returns-2 : tie.Need-returns-2
 returns-2 c =
-    rw (c .before .before .greatest-radix .ensures)
-    (r-out-of-range _ _ _ (m-ranged (c .before .before .before)) (ap (within 4 _) (sym (c .before .before .greatest-radix .ensures)) ∙ sym (c .before .within2 .ensures) ∙ not-true _ (c .if2 .taken)))
+    let r = c .before .before in
+    rw (c .greatest-radix .ensures) (r-out-of-range _ _ _ (m-ranged (r .before)) (sym (r .r-in-range .ensures) ∙ not-true _ (c .before .if2 .taken)))
 
 lengths-fit-requires : tie.Need-lengths-fit-requires
-lengths-fit-requires c κs = within-parts 10 _ 16 (m-ranged (first (c .before .before .before)))
+lengths-fit-requires c κs = m-ranged (first (c .before .before .before))
 
 same-length : tie.Need-same-length
 same-length c = search needs
@@ -97,10 +95,10 @@ pub boot-spec : {M : Type 1} → statement M
 boot-spec =
     tie.close
     (tie.spec
-    within-requires
+    m-in-range-requires
     returns
+    r-in-range-requires
     greatest-radix-requires
-    within-requires-2
     returns-2
     lengths-fit-requires
     same-length

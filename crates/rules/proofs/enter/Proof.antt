@@ -4,8 +4,9 @@ use mathlib.Core.Path.{_≡_, sym, _∙_}
 use native.Mathlib.Omega.{arith}
 use borrow.Author.Needs.{needs}
 use borrow.Author.Tests.{not-true, not-false}
+use Rattle.table.proofs.Ranges.{m-most}
 use Rattle.rules.specs.Owners.{firstCell}
-use Rattle.rules.proofs.Enters.{m-most, small, most-bytes, as-cells, in-array, first-in-array, below-typed, outside, is-held, others-own, takes}
+use Rattle.rules.proofs.Enters.{small, most-bytes, as-cells, in-array, first-in-array, below-typed, outside, is-held, others-own, takes}
 use Rattle.rules.proofs.enter.Statement.{statement}
 use Rattle.rules.proofs.enter.Tie as tie
 

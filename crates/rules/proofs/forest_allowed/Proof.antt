@@ -7,8 +7,9 @@ use borrow.Author.Tests.{not-true, not-false}
 use lib.ListN.{length, replicate, length-replicate}
 use Rattle.model.specs.Edition.{edition32}
 use Rattle.model.specs.Tables.{rows, word, follow}
+use Rattle.table.proofs.Ranges.{rows-most}
 use Rattle.rules.specs.Owners.{walk}
-use Rattle.rules.proofs.Law.{rows-most, forest-judged}
+use Rattle.rules.proofs.Law.{forest-judged}
 use Rattle.rules.proofs.Stepping.{Underway, few, row-below, row-filled, row-shallow, goes-on, stops, begins, row-up, let-in, kept-out, fails, ends}
 use Rattle.rules.proofs.forest_allowed.Statement.{statement}
 use Rattle.rules.proofs.forest_allowed.Tie as tie

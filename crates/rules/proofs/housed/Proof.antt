@@ -8,8 +8,8 @@ use borrow.Author.Needs.{needs}
 use lib.ListN.{length}
 use Rattle.model.specs.Edition.{edition32}
 use Rattle.model.specs.Tables.{rows}
+use Rattle.table.proofs.Ranges.{rows-most}
 use Rattle.rules.specs.Owners.{homes}
-use Rattle.rules.proofs.Law.{rows-most}
 use Rattle.rules.proofs.Housing.{none-homes, empty-home, node-home, no-home, other-home}
 use Rattle.rules.proofs.housed.Statement.{statement}
 use Rattle.rules.proofs.housed.Tie as tie

@@ -1,13 +1,17 @@
 -- A word of the table is a word of its row.
 use native.Mathlib.Omega.{arith}
+use Rattle.model.specs.Rules.{mInRange}
+use Rattle.model.proofs.Booleans.{parts-within}
+use Rattle.table.proofs.Ranges.{rows-most}
 use Rattle.core.specs.Booting.{bootTable}
-use Rattle.core.proofs.BootRows.{rows-most, word-of-row}
+use Rattle.core.proofs.BootRows.{word-of-row}
 use borrow.Author.Needs.{needs}
 use Rattle.core.proofs.booting.boot_word.Statement.{statement}
 use Rattle.core.proofs.booting.boot_word.Tie as tie
 
 cast-boot-row : tie.Need-cast-boot-row
-cast-boot-row c = omega (arith, c .pre .1, rows-most (c .args .m) (c .pre .0 .greatestM))
+unfolding mInRange
+cast-boot-row c = let g = c .pre .0 in omega (arith, c .pre .1, rows-most (c .args .m) (parts-within 10 _ 16 (g .leastM) (g .greatestM)))
 
 boot-row-requires : tie.Need-boot-row-requires
 boot-row-requires c κs = search needs
