@@ -16,7 +16,7 @@ use Rattle.model.specs.Rules.{mInRange, greatestR, rInRange, lengthsFit}
 use Rattle.model.specs.Request.{concluded, booted, boot}
 use Rattle.model.proofs.Booleans.{and-left, and-right, within-parts}
 use Rattle.model.proofs.Words.Booted.{control-booted}
-use Rattle.table.proofs.Ranges.{m-least, m-most}
+use Rattle.model.proofs.Words.Bounds.{m-least, m-most}
 use Rattle.core.specs.Booting.{Range, bootTable}
 
 pub in-range : (m r : ℕ) → mInRange edition32 m ≡ true → rInRange edition32 m r ≡ true → Range m r

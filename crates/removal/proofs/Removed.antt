@@ -7,7 +7,7 @@ use native.Mathlib.Omega.{arith}
 use lib.Dec.{eqb}
 use lib.ListN.{length}
 use borrow.Author.Tests.{eqb-true}
-use Rattle.model.specs.Edition.{edition32}
+use Rattle.model.specs.Edition.{edition32, mostRows}
 use Rattle.model.specs.Lists.{any, member}
 use Rattle.model.specs.Cap.{isEmpty}
 use Rattle.model.specs.Tree.{Forest, entries, below, capAt}
@@ -84,7 +84,7 @@ module _ (t : Tables) (well : wellFormed edition32 t ≡ true) (k : ℕ) where
       go true e = unfold only member any in either (eqb j k) (λ u. rw (u, eqb-true j k u, e)) (λ f. rw f)
       go false e = unfold only member any in either (eqb j k) (λ u. rw (u, eqb-true j k u, e)) (λ f. rw f)
 
-  pub target-marked : (mark mark′ : List ℕ) → Zeros 4096 mark → ((j : ℕ) → marked mark′ j ≡ (marked mark j || only (capOf (t .table)) k j)) → (j : ℕ) → marked mark′ j ≡ member j (target t k)
+  pub target-marked : (mark mark′ : List ℕ) → Zeros mostRows mark → ((j : ℕ) → marked mark′ j ≡ (marked mark j || only (capOf (t .table)) k j)) → (j : ℕ) → marked mark′ j ≡ member j (target t k)
   target-marked mark mark′ z is j = is j ∙ rw (none-marked mark z j) (only-target j)
 
 -- ---- the start of Revoke
@@ -98,5 +98,5 @@ module _ (t : Tables) (well : wellFormed edition32 t ≡ true) (k : ℕ) where
       let mf = below-has (u .at) (u .has) in
       subst (λ i. isEmpty (capAt (read edition32 t .forest) i) ≡ false) r (ap isEmpty (known (sound t well) mf) ∙ fine (sound t well) mf .filled)
 
-  pub offspring-marked : (mark mark′ : List ℕ) → Zeros 4096 mark → ((j : ℕ) → marked mark′ j ≡ (marked mark j || isOffspring t k j)) → (j : ℕ) → marked mark′ j ≡ member j (offspring t k)
+  pub offspring-marked : (mark mark′ : List ℕ) → Zeros mostRows mark → ((j : ℕ) → marked mark′ j ≡ (marked mark j || isOffspring t k j)) → (j : ℕ) → marked mark′ j ≡ member j (offspring t k)
   offspring-marked mark mark′ z is j = is j ∙ rw (none-marked mark z j)

@@ -10,7 +10,7 @@ use lib.Pow.{pow-mono}
 use lib.Dec.{leb, ltb, eqb}
 use borrow.Author.Tests.{le-leb, lt-leb, lt-ltb, le-ltb, eq-eqb, ne-eqb}
 use Rattle.model.specs.declared.Cap.{Cap}
-use Rattle.model.specs.Edition.{edition32}
+use Rattle.model.specs.Edition.{edition32, mostRows}
 use Rattle.model.specs.Cap.{isEmpty, isCNode, firstRow, slots, houses}
 use Rattle.model.proofs.Distinct.{Order, less, same, more, order}
 use Rattle.removal.specs.Marking.{marked, Counted, Marks, only, between, inNode}
@@ -66,7 +66,7 @@ module _ (cap : ℕ → Cap) where
 
 -- ---- how many slots a CNode has, as code computes it
 
-pub radix-small : (c : Cap) → slots c ≤ 4096 → c .size < 32
+pub radix-small : (c : Cap) → slots c ≤ mostRows → c .size < 32
 unfolding slots
 radix-small c h =
     elim (decLt (c .size) 32) [
@@ -74,6 +74,6 @@ radix-small c h =
       | no l ↦ absurd (omega (arith, pow-mono {i = 32} {j = c .size} (omega arith)))
     ]
 
-pub slots-shifted : (c : Cap) → slots c ≤ 4096 → 1 * 2 ^ c .size % 4294967296 ≡ slots c
+pub slots-shifted : (c : Cap) → slots c ≤ mostRows → 1 * 2 ^ c .size % 4294967296 ≡ slots c
 unfolding slots
 slots-shifted c h = mod-eq-of-lt (omega arith) ∙ one-mul (2 ^ c .size)

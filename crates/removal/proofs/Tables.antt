@@ -1,11 +1,11 @@
 -- From well-formed tables to the start of a walk along their list, and from its end to the tables without the marked rows.
-use Prim.Native.Nat.{ℕ, zero, suc, _-_}
+use Prim.Native.Nat.{ℕ, zero, suc, _+_, _-_}
 use mathlib.Core.Path.{_≡_, refl, sym, ap, ap₂, _∙_}
 use mathlib.Core.Bool.{Bool, true, not}
 use mathlib.Core.List.{List, [], _∷_}
 use native.Mathlib.Omega.{arith}
 use lib.ListN.{getD, length, set, replicate, length-replicate, length-map}
-use Rattle.model.specs.Edition.{edition32}
+use Rattle.model.specs.Edition.{edition32, mostRows}
 use Rattle.model.specs.Lists.{member, count}
 use Rattle.model.specs.Cap.{isEmpty}
 use Rattle.model.specs.Tree.{Forest, entries, edit, without}
@@ -49,7 +49,7 @@ module _ (t : Tables) (well : wellFormed edition32 t ≡ true) where
   unfolding read
   list-read = listing-grown (listIn edition32 t) (form .chained .steps)
 
-  pub walk-start : (mark start : List ℕ) → Zeros 4097 start → Walked edition32 (rowsOfTables t) (getD (t .control) 3 0) (marked mark) (whole mark start t) (t .table) start (getD (t .control) 2 0) (getD (t .control) 3 0) 4294967295 4294967295 0
+  pub walk-start : (mark start : List ℕ) → Zeros (mostRows + 1) start → Walked edition32 (rowsOfTables t) (getD (t .control) 3 0) (marked mark) (whole mark start t) (t .table) start (getD (t .control) 2 0) (getD (t .control) 3 0) 4294967295 4294967295 0
   unfolding firstOf
   walk-start mark start z = (
     [],
@@ -75,7 +75,7 @@ module _ (t : Tables) (well : wellFormed edition32 t ≡ true) where
     },
   )
 
-  module _ (mark start low : List ℕ) (z : Zeros 4097 start) (row left last head kept : ℕ) (u : List ℕ)
+  module _ (mark start low : List ℕ) (z : Zeros (mostRows + 1) start) (row left last head kept : ℕ) (u : List ℕ)
       (w : Walked edition32 (rowsOfTables t) (getD (t .control) 3 0) (marked mark) (whole mark start t) u low row left last head kept) (done : left ≡ 0) where
     abbrev f : Forest
     f = read edition32 t .forest

@@ -10,14 +10,14 @@ use lib.ListN.{getD, set, length-set}
 use lib.Seq.{getD-set-same, getD-set-other}
 use borrow.Author.Tests.{eqb-true, eqb-false, eq-eqb, ne-eqb}
 use Rattle.model.specs.declared.Cap.{Cap}
-use Rattle.model.specs.Edition.{edition32}
+use Rattle.model.specs.Edition.{edition32, mostRows}
 use Rattle.model.specs.Cap.{isCNode, firstRow}
 use Rattle.model.specs.Lists.{count}
 use Rattle.model.proofs.Booleans.{either}
 use Rattle.model.proofs.Distinct.{count-most}
 use Rattle.removal.specs.Marking.{names, Zeros, Tally}
 
-pub tally-none : (cap : ℕ → Cap) (counts : List ℕ) → Zeros 4096 counts → Tally cap counts 0
+pub tally-none : (cap : ℕ → Cap) (counts : List ℕ) → Zeros mostRows counts → Tally cap counts 0
 unfolding count
 tally-none cap counts z = record { long = z .long; each = λ c b. z .zeroAt c }
 
@@ -30,10 +30,10 @@ module _ (cap : ℕ → Cap) (counts : List ℕ) (row : ℕ) (t : Tally cap coun
   unfolding names
   tally-plain f = record { long = t .long; each = λ c b. omega (arith, t .each c b, next c false (rw f)) }
 
-  pub tally-few : (c : ℕ) → c < 4096 → getD counts c 0 ≤ row
+  pub tally-few : (c : ℕ) → c < mostRows → getD counts c 0 ≤ row
   tally-few c b = omega (arith, t .each c b, count-most (names cap c) row)
 
-  pub tally-node : (first : ℕ) → first < 4096 → isCNode (cap row) ≡ true → firstRow edition32 (cap row) ≡ first → Tally cap (set counts first (getD counts first 0 + 1)) (row + 1)
+  pub tally-node : (first : ℕ) → first < mostRows → isCNode (cap row) ≡ true → firstRow edition32 (cap row) ≡ first → Tally cap (set counts first (getD counts first 0 + 1)) (row + 1)
   unfolding names
   tally-node first small node is =
       record {

@@ -8,7 +8,7 @@ use lib.Dec.{eqb}
 use lib.ListN.{getD, length, set, length-set, length-append}
 use lib.Seq.{getD-set-same, getD-set-other}
 use borrow.Author.Tests.{eqb-true, eqb-false, ne-eqb}
-use Rattle.model.specs.Edition.{Edition}
+use Rattle.model.specs.Edition.{Edition, mostRows}
 use Rattle.model.specs.Stores.{unlinked}
 use Rattle.model.specs.Tables.{Listed, word, firstOf, rowsFrom}
 use Rattle.model.proofs.Booleans.{either}
@@ -34,10 +34,10 @@ pub record Walk (E : Edition) (n total : ℕ) (dead : ℕ → Bool) (all : List 
   pub keptIs : kept ≡ length zs
   pub most : ℕ
   pub steps : Steps most ys
-  pub few : total ≤ 4096
+  pub few : total ≤ mostRows
   pub deep : most + left ≤ total
   pub fit : kept + left ≤ total
-  pub wide : length low ≡ 4097
+  pub wide : length low ≡ mostRows + 1
   pub shallow : (j : ℕ) → getD low j 0 ≤ kept
   pub rest : zs ++ thinned dead (λ j. getD low j 0) ys ≡ all
 
@@ -80,7 +80,7 @@ module _ (E : Edition) (n total : ℕ) (dead : ℕ → Bool) (all : List Listed)
     isRow : x .entry .row ≡ row
     next : word t row 5 ≡ firstOf E ys
     depth : word t row 7 ≡ x .depth
-    small : word t row 7 < 4096
+    small : word t row 7 < mostRows
 
   here : (zs : List Listed) (x : Listed) (ys : List Listed) → Walk E n total dead all t low row left last head kept zs (x ∷ ys) → Here zs x ys
   unfolding firstOf
@@ -100,7 +100,7 @@ module _ (E : Edition) (n total : ℕ) (dead : ℕ → Bool) (all : List Listed)
   walk-row (zs, [], w) h = absurd (omega (arith, w .leftIs))
   walk-row (zs, x ∷ ys, w) h = here zs x ys w .inTable
 
-  pub walk-small : Walked E n total dead all t low row left last head kept → 0 < left → word t row 7 < 4096
+  pub walk-small : Walked E n total dead all t low row left last head kept → 0 < left → word t row 7 < mostRows
   walk-small (zs, [], w) h = absurd (omega (arith, w .leftIs))
   walk-small (zs, x ∷ ys, w) h = here zs x ys w .small
 
@@ -110,7 +110,7 @@ module _ (E : Edition) (n total : ℕ) (dead : ℕ → Bool) (all : List Listed)
   pub walk-long : Walked E n total dead all t low row left last head kept → length t ≡ 8 * n
   walk-long (zs, ys, w) = w .written .long
 
-  pub walk-few : Walked E n total dead all t low row left last head kept → total ≤ 4096
+  pub walk-few : Walked E n total dead all t low row left last head kept → total ≤ mostRows
   walk-few (zs, ys, w) = w .few
 
   pub walk-as : {t′ low′ : List ℕ} {row′ left′ last′ head′ kept′ : ℕ} → t′ ≡ t → low′ ≡ low → row′ ≡ row → left′ ≡ left → last′ ≡ last → head′ ≡ head → kept′ ≡ kept

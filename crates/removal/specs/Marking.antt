@@ -6,7 +6,7 @@ use mathlib.Core.List.{List}
 use lib.Dec.{leb, ltb, eqb}
 use lib.ListN.{getD, length}
 use Rattle.model.specs.declared.Cap.{Cap}
-use Rattle.model.specs.Edition.{edition32}
+use Rattle.model.specs.Edition.{edition32, mostRows}
 use Rattle.model.specs.Cap.{isEmpty, isCNode, firstRow, slots, sameObject, houses}
 use Rattle.model.specs.Lists.{count}
 
@@ -29,8 +29,8 @@ pub record Zeros (n : ℕ) (xs : List ℕ) : Type 0 where
 
 -- of the rows below n, how many name each CNode
 pub record Tally (cap : ℕ → Cap) (counts : List ℕ) (n : ℕ) : Type 0 where
-  pub long : length counts ≡ 4096
-  pub each : (c : ℕ) → c < 4096 → getD counts c 0 ≡ count (names cap c) n
+  pub long : length counts ≡ mostRows
+  pub each : (c : ℕ) → c < mostRows → getD counts c 0 ≡ count (names cap c) n
 
 -- ---- a table
 
@@ -39,7 +39,7 @@ rowCount t = length t / 8
 
 -- the CNodes of n rows: each lies in the table, and those with the same first slot are one
 pub record Nodes (n : ℕ) (cap : ℕ → Cap) : Type 0 where
-  pub few : n ≤ 4096
+  pub few : n ≤ mostRows
   pub inside : (k : ℕ) → k < n → isCNode (cap k) ≡ true → firstRow edition32 (cap k) + slots (cap k) ≤ n
   pub alike : (j k : ℕ) → j < n → k < n → isCNode (cap j) ≡ true → isCNode (cap k) ≡ true → firstRow edition32 (cap j) ≡ firstRow edition32 (cap k) → sameObject (cap j) (cap k) ≡ true
 

@@ -12,6 +12,7 @@ use model::Row;
 use single::cut;
 use single::goes_alone;
 use survivors::thin;
+use table::figures::MOST_ROWS;
 use table::word;
 ghost use mathlib.Core.Path.{_≡_};
 ghost use mathlib.Core.Bool.{true};
@@ -35,9 +36,9 @@ pub fn delete(t: &mut [u32], control: &mut [u32; 4], row: Row) -> u32
         cut(t, control, row.0);
         return 1;
     }
-    let mut mark = [0u32; 4096];
-    let mut counts = [0u32; 4096];
-    let mut work = [0u32; 4096];
+    let mut mark = [0u32; MOST_ROWS];
+    let mut counts = [0u32; MOST_ROWS];
+    let mut work = [0u32; MOST_ROWS];
     count_names(t, &mut counts);
     let filled = mark_row(t, row.0, &mut mark, &mut counts, &mut work, 0);
     spread(t, &mut mark, &mut counts, &mut work, filled);
@@ -50,9 +51,9 @@ pub fn revoke(t: &mut [u32], control: &mut [u32; 4], row: Row) -> u32
     requires { ⌜ row .0 * 8 + 8 ≤ length (now t) ⌝ }
     ensures { λ r. ⌜ removing.Removes (lent (now (t .entry)) (now (control .entry))) (lent (now (t .exit)) (now (control .exit))) (removing.offspring (lent (now (t .entry)) (now (control .entry))) (row .0)) r ⌝ }
 {
-    let mut mark = [0u32; 4096];
-    let mut counts = [0u32; 4096];
-    let mut work = [0u32; 4096];
+    let mut mark = [0u32; MOST_ROWS];
+    let mut counts = [0u32; MOST_ROWS];
+    let mut work = [0u32; MOST_ROWS];
     count_names(t, &mut counts);
     let filled = mark_descendants(t, control, row.0, &mut mark, &mut counts, &mut work);
     spread(t, &mut mark, &mut counts, &mut work, filled);

@@ -11,7 +11,7 @@ ghost use mathlib.Core.Path.{_≡_};
 ghost use mathlib.Core.Bool.{true, cond};
 ghost use Prim.Native.Nat.{_+_, _<_, _≤_};
 ghost use lib.Dec.{eqb};
-ghost use Rattle.model.specs.Edition.{edition32};
+ghost use Rattle.model.specs.Edition.{edition32, mostRows};
 ghost use Rattle.model.specs.Tables.{capOf, lent};
 ghost use Rattle.model.specs.Rules.{wellFormed};
 ghost use Rattle.removal.specs.Marking as marking;
@@ -20,7 +20,7 @@ ghost use Rattle.removal.specs.Removing as removing;
 // A row of the table, another than the given one, names what that one names.
 fn also_names(t: &[u32], row: u32, other: u32) -> bool
     requires { ⌜ row < marking.rowCount (now t) ⌝ }
-    requires { ⌜ marking.rowCount (now t) ≤ 4096 ⌝ }
+    requires { ⌜ marking.rowCount (now t) ≤ mostRows ⌝ }
     ensures { λ r. ⌜ r ≡ removing.alsoNames (capOf (now (t .entry))) (marking.rowCount (now (t .entry))) row other ⌝ }
 {
     let rows = (t.len() / 8) as u32;
@@ -36,7 +36,7 @@ fn also_names(t: &[u32], row: u32, other: u32) -> bool
 // Another row names the object that a row names. A copy stands beside its source in the list, so the rows beside are asked first.
 fn named_elsewhere(t: &[u32], row: u32) -> bool
     requires { ⌜ row < marking.rowCount (now t) ⌝ }
-    requires { ⌜ marking.rowCount (now t) ≤ 4096 ⌝ }
+    requires { ⌜ marking.rowCount (now t) ≤ mostRows ⌝ }
     ensures { λ r. ⌜ r ≡ removing.namedElsewhere (capOf (now (t .entry))) (marking.rowCount (now (t .entry))) row ⌝ }
 {
     if also_names(t, row, word(t, Row(row), 6)) {
@@ -59,7 +59,7 @@ fn named_elsewhere(t: &[u32], row: u32) -> bool
 // Nothing follows a row that names no CNode, or a CNode that another row names too.
 pub fn goes_alone(t: &[u32], row: u32) -> bool
     requires { ⌜ row < marking.rowCount (now t) ⌝ }
-    requires { ⌜ marking.rowCount (now t) ≤ 4096 ⌝ }
+    requires { ⌜ marking.rowCount (now t) ≤ mostRows ⌝ }
     ensures { λ r. ⌜ r ≡ removing.goesAlone (capOf (now (t .entry))) (marking.rowCount (now (t .entry))) row ⌝ }
 {
     word(t, Row(row), 0) != CNODE || named_elsewhere(t, row)

@@ -7,7 +7,7 @@ use native.Mathlib.Omega.{arith}
 use lib.Dec.{eqb}
 use lib.ListN.{length}
 use borrow.Author.Tests.{leb-false, ltb-false, eqb-false, not-false}
-use Rattle.model.specs.Edition.{edition32}
+use Rattle.model.specs.Edition.{edition32, mostRows}
 use Rattle.model.specs.declared.Answer.{Answer}
 use Rattle.model.specs.declared.Cap.{Cap}
 use Rattle.model.specs.declared.Retyping.{Retyping}
@@ -82,7 +82,7 @@ node-usable t p n ready usable e = go (eqb (p .depth) 0) e
     go false h = named (slotOf edition32 (p .source) (lookup edition32 (capOf t) (p .root) (p .index) (p .depth))) h
 
 -- the slots of a CNode that is usable are few
-pub node-room : (t : List ℕ) (n : Cap) → Ready t → (isCNode n ≡ true → Usable t n) → isCNode n ≡ true → firstRow edition32 n + slots n ≤ 4096
+pub node-room : (t : List ℕ) (n : Cap) → Ready t → (isCNode n ≡ true → Usable t n) → isCNode n ≡ true → firstRow edition32 n + slots n ≤ mostRows
 node-room t n ready usable node = omega (arith, ready .small, usable node .inside)
 
 -- the window lies in the table

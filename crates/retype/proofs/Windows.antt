@@ -5,7 +5,7 @@ use mathlib.Core.Bool.{true, false, not, _||_}
 use native.Mathlib.Omega.{arith}
 use lib.Dec.{leb, ltb, eqb}
 use borrow.Author.Tests.{eq-eqb, ne-eqb, le-leb, lt-leb, lt-ltb, le-ltb}
-use Rattle.model.specs.Edition.{Edition, edition32}
+use Rattle.model.specs.Edition.{Edition, edition32, mostRows}
 use Rattle.model.specs.declared.Answer.the-variants.{RangeError, FailedLookup}
 use Rattle.model.specs.declared.Cap.{Cap}
 use Rattle.model.specs.declared.Failure.the-variants.{Missing}
@@ -24,7 +24,7 @@ pub no-node : (E : Edition) (n : Cap) (q : Retyping) → (n .kind ≡ 5 → ⊥)
 unfolding windowIn isCNode
 no-node E n q h = stops _ _ _ rw (ne-eqb (n .kind) 5 h)
 
-pub radix-small : (n : Cap) → (isCNode n ≡ true → firstRow edition32 n + slots n ≤ 4096) → n .kind ≡ 5 → n .size ≤ 12
+pub radix-small : (n : Cap) → (isCNode n ≡ true → firstRow edition32 n + slots n ≤ mostRows) → n .kind ≡ 5 → n .size ≤ 12
 unfolding slots
 radix-small n room node = exponent-le 12 (n .size) (omega (arith, room (node-kind n node)))
 

@@ -3,7 +3,7 @@ use Prim.Native.Nat.{ℕ, _+_, _*_, _^_, _≤_, _<_}
 use mathlib.Core.List.{List, map}
 use lib.ListN.{length, getD, set}
 use Rattle.model.specs.declared.Retyping.{Retyping}
-use Rattle.model.specs.Edition.{edition32}
+use Rattle.model.specs.Edition.{edition32, mostRows}
 use Rattle.model.specs.Cap.{exponent}
 use Rattle.model.specs.Tree.{Entry}
 use Rattle.model.specs.Tables.{Tables, Listed, word}
@@ -28,7 +28,7 @@ pub record Room (t : List ℕ) (after : ℕ) (q : Retyping) (k address : ℕ) : 
   pub known : Known (q .object) (q .size)
   pub inTable : after * 8 + 8 ≤ length t
   pub rows : (k + q .window) * 8 ≤ length t
-  pub few : k + q .window ≤ 4096
+  pub few : k + q .window ≤ mostRows
   pub named : address + q .window * unit q ≤ 4294967296
 
 -- the tables after the window's objects are made from byte `at` of the Untyped in row k, whose watermark is then at their end
@@ -44,6 +44,6 @@ laidOut t k first at q =
 -- what making the window's objects asks: `Room`, and a depth, a count and a watermark that fit
 pub record Layable (t : Tables) (k first at : ℕ) (q : Retyping) : Type 0 where
   pub room : Room (t .table) k q first (word (t .table) k 1 + at)
-  pub depth : word (t .table) k 7 < 4096
-  pub count : getD (t .control) 3 0 ≤ 4096
+  pub depth : word (t .table) k 7 < mostRows
+  pub count : getD (t .control) 3 0 ≤ mostRows
   pub end : word (t .table) k 1 + at + q .window * unit q < 4294967296

@@ -18,7 +18,7 @@ ghost use mathlib.Core.Path.{_≡_};
 ghost use mathlib.Core.Bool.{true};
 ghost use Prim.Native.Nat.{_+_, _*_, _≤_};
 ghost use lib.ListN.{length};
-ghost use Rattle.model.specs.Edition.{edition32};
+ghost use Rattle.model.specs.Edition.{edition32, mostRows};
 ghost use Rattle.model.specs.Cap as cap;
 ghost use Rattle.model.specs.Tables as tables;
 ghost use Rattle.lookup.specs.Finds.{ofFound};
@@ -67,7 +67,7 @@ pub fn any_taken(t: &[u32], first: Row, n: u32) -> bool
 
 // The first slot of the window in a node.
 pub fn window(n: Cap, q: Retyping) -> Found
-    requires { ⌜ (cap.isCNode n ≡ true → cap.firstRow edition32 n + cap.slots n ≤ 4096) ⌝ }
+    requires { ⌜ (cap.isCNode n ≡ true → cap.firstRow edition32 n + cap.slots n ≤ mostRows) ⌝ }
     ensures { λ r. ⌜ ofFound r ≡ tests.windowIn edition32 n q ⌝ }
 {
     if n.kind != CNODE {

@@ -5,10 +5,9 @@ use mathlib.Core.Bool.{Bool, true, false}
 use mathlib.Core.List.{List}
 use native.Mathlib.Omega.{arith}
 use lib.ListN.{getD}
-use lib.Pow.{pow-mono}
 use borrow.Author.Tests.{eq-eqb, ne-eqb}
 use Rattle.model.specs.declared.Cap.{Cap}
-use Rattle.model.specs.Edition.{edition32}
+use Rattle.model.specs.Edition.{edition32, mostRows}
 use Rattle.model.specs.Cap.{isUntyped, exponent, bytes, limit, sameObject}
 use Rattle.model.specs.Tables.{rows, capOf}
 use Rattle.model.specs.Rules.{capAllowed, insideBelow}
@@ -16,7 +15,7 @@ use Rattle.model.proofs.Kept.Allowed.{limit-of}
 use Rattle.model.proofs.Kept.Figures.{sane32}
 use Rattle.model.proofs.Kept.Powers.{exponent-le}
 use Rattle.model.proofs.Words.Chain.{rows-at, row-taken}
-use Rattle.table.proofs.Ranges.{m-most}
+use Rattle.model.proofs.Words.Bounds.{memory-most}
 use Rattle.rules.specs.Owners.{firstCell, cells, ownedBy, took, kept, capUp, beside, enter}
 use Rattle.rules.specs.Checked.{Occupied}
 use Rattle.rules.proofs.Cells.{Celled}
@@ -31,7 +30,7 @@ module _ (m : ℕ) (t : List ℕ) (k : ℕ) (at : Occupied edition32 m t k) wher
   limited : capOf t k .address .0 + bytes edition32 (capOf t k) ≤ 65536
   unfolding limit
   limited =
-      omega (arith, limit-of edition32 m (capOf t k) allowed, pow-mono {i = m} {j = 16} (m-most m (at .scanned .mRange)))
+      omega (arith, limit-of edition32 m (capOf t k) allowed, memory-most m (at .scanned .mRange))
 
   module _ (c : Cap) (isK : c ≡ capOf t k) where
     power : 2 ^ exponent edition32 (c .kind - 1) (c .size) ≤ 65536
@@ -49,13 +48,13 @@ module _ (m : ℕ) (t : List ℕ) (k : ℕ) (at : Occupied edition32 m t k) wher
     unfolding cells
     as-cells n e = ap (λ (x : ℕ). x / 16) e
 
-    pub in-array : firstCell c + cells edition32 c ≤ 4096
+    pub in-array : firstCell c + cells edition32 c ≤ mostRows
     in-array =
         rw isK
         (let p : Celled edition32 (capOf t k) = celled-of sane32 m (capOf t k) allowed (at .filled) in
         omega (arith, limited, p .starts, p .wide))
 
-    pub first-in-array : firstCell c < 4096
+    pub first-in-array : firstCell c < mostRows
     first-in-array =
         rw isK
         (let p : Celled edition32 (capOf t k) = celled-of sane32 m (capOf t k) allowed (at .filled) in

@@ -8,7 +8,7 @@ use lib.ListN.{getD, length, replicate, length-replicate, getD-replicate}
 use borrow.Author.Tests.{eq-eqb, eqb-true}
 use Rattle.model.specs.declared.Cap.{Cap}
 use Rattle.model.specs.Lists.{allTrue, all, count}
-use Rattle.model.specs.Edition.{Edition, edition32}
+use Rattle.model.specs.Edition.{Edition, edition32, mostRows}
 use Rattle.model.specs.Cap.{isEmpty, isUntyped}
 use Rattle.model.specs.Tree.{Forest, end, tree, entries, roots}
 use Rattle.model.specs.Tables.{rows, capOf, follow, grown}
@@ -20,7 +20,7 @@ use Rattle.model.proofs.Kept.Allowed.{limit-of}
 use Rattle.model.proofs.Words.Listing.{listing-grown}
 use Rattle.model.proofs.Words.Chain.{Chain, chain}
 use Rattle.model.proofs.Words.WellFormed.{roomy32}
-use Rattle.table.proofs.Ranges.{m-least, rows-most}
+use Rattle.model.proofs.Words.Bounds.{m-least, rows-most}
 use Rattle.rules.specs.Owners.{memory, capUp, rowAbove, walk, judged}
 use Rattle.rules.specs.Checked.{Checked}
 use Rattle.rules.proofs.Cells.{Covers, Celled}
@@ -149,11 +149,11 @@ module _ {E : Edition} (sane : Sane E) (sixteen : E .slot ≡ 4) (m : ℕ) (t : 
 
 -- ---- at 32 bits
 
-pub forest-judged : (m head n : ℕ) (t above : List ℕ) → Checked edition32 m head n t → 4096 ≤ length above
-    → judged edition32 m t (walk edition32 m t above (replicate 4096 4294967295) (follow edition32 t n head)) ≡ forestAllowed edition32 (grown 0 (follow edition32 t n head))
+pub forest-judged : (m head n : ℕ) (t above : List ℕ) → Checked edition32 m head n t → mostRows ≤ length above
+    → judged edition32 m t (walk edition32 m t above (replicate mostRows 4294967295) (follow edition32 t n head)) ≡ forestAllowed edition32 (grown 0 (follow edition32 t n head))
 unfolding occupied
 forest-judged m head n t above c h =
     let s = c .counts .scanned in
     let room = roomy32 .room m (s .mRange) in
     walk-judged sane32 refl m t n head (omega (arith, m-least m (s .mRange))) room (s .each) (eqb-true n (occupied t (rows edition32 m)) (c .counts .counted))
-    (chain edition32 m t n (edition32 .none) 0 head room (c .chain)) 4096 (rows-most m (s .mRange)) above (omega (arith, rows-most m (s .mRange)))
+    (chain edition32 m t n (edition32 .none) 0 head room (c .chain)) mostRows (rows-most m (s .mRange)) above (omega (arith, rows-most m (s .mRange)))

@@ -10,12 +10,12 @@ use lib.Pow.{pow-pos}
 use lib.Seq.{getD-set-same, getD-set-other, set-out}
 use borrow.Author.Tests.{ne-eqb, eqb-true, eqb-false, ltb-true, ltb-false, leb-true, not-true, eq-eqb}
 use Rattle.model.specs.Lists.{count}
-use Rattle.model.specs.Edition.{Edition, edition32}
+use Rattle.model.specs.Edition.{Edition, edition32, mostRows}
 use Rattle.model.specs.Cap.{isEmpty}
 use Rattle.model.specs.Tables.{rows, word, capOf, follow}
 use Rattle.model.specs.Rules.{linkAllowed, listed, occupied}
 use Rattle.model.proofs.Booleans.{either, and-left, and-right, part}
-use Rattle.table.proofs.Ranges.{rows-most}
+use Rattle.model.proofs.Words.Bounds.{rows-most}
 use Rattle.rules.specs.Owners.{Owners, broken, owners, kept, goOn, enter, rowAbove, walk, homes, judged}
 use Rattle.rules.specs.Checked.{Checked}
 use Rattle.rules.proofs.Law.{count-le}
@@ -65,7 +65,7 @@ pub record Underway (m count : ℕ) (t : List ℕ) (whole : Owners) (above o : L
   pub shallow : most + n ≤ count
   pub inRows : (j : ℕ) → getD above j 0 < rows edition32 m
 
-pub few : (m head n : ℕ) (t : List ℕ) → Checked edition32 m head n t → n ≤ 4096
+pub few : (m head n : ℕ) (t : List ℕ) → Checked edition32 m head n t → n ≤ mostRows
 unfolding occupied
 few m head n t c =
     omega (arith, eqb-true n (occupied t (rows edition32 m)) (c .counts .counted), count-le (λ k. not (isEmpty (capOf t k))) (rows edition32 m), rows-most m (c .counts .scanned .mRange))
@@ -125,8 +125,8 @@ zeros-in-rows m n j =
     (λ l. rw (getD-replicate {A = ℕ} n j 0 0 (ltb-true j n l)) some)
     (λ l. rw (List·getD-eq-default {A = ℕ} (replicate n 0) 0 {n = j} (omega (arith, ltb-false j n l, length-replicate {A = ℕ} n 0))) some)
 
-pub begins : (m head n : ℕ) (t o : List ℕ) → Checked edition32 m head n t → Underway m n t (walk edition32 m t (replicate 4096 0) o (follow edition32 t n head)) (replicate 4096 0) o head n
-begins m head n t o c = record { rest = refl; before = 4294967295; most = 0; list = c .chain; shallow = omega arith; inRows = zeros-in-rows m 4096 }
+pub begins : (m head n : ℕ) (t o : List ℕ) → Checked edition32 m head n t → Underway m n t (walk edition32 m t (replicate mostRows 0) o (follow edition32 t n head)) (replicate mostRows 0) o head n
+begins m head n t o c = record { rest = refl; before = 4294967295; most = 0; list = c .chain; shallow = omega arith; inRows = zeros-in-rows m mostRows }
 
 pub row-up : (m : ℕ) (above : List ℕ) (up d : ℕ) → ((j : ℕ) → getD above j 0 < rows edition32 m) → up ≡ rowAbove edition32 above d → (up ≡ 4294967295 → ⊥) → up < rows edition32 m
 unfolding rowAbove

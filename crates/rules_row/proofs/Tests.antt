@@ -1,5 +1,5 @@
 -- A capability's tests in the order of the code: the first that fails decides.
-use Prim.Native.Nat.{ℕ, _-_, _≤_}
+use Prim.Native.Nat.{ℕ, _-_, _<_}
 use mathlib.Core.Path.{_≡_, refl}
 use mathlib.Core.Bool.{Bool, true, false, _&&_}
 use native.Mathlib.Omega.{arith}
@@ -11,6 +11,7 @@ use Rattle.model.specs.Cap.{isUntyped}
 use Rattle.model.specs.Rules.{mInRange, sizeAllowed, placeAllowed, thirdAllowed, fourthAllowed, capAllowed}
 use Rattle.rules_row.proofs.ByKind.{sized}
 use Rattle.model.proofs.Booleans.{and-right, within-parts}
+use Rattle.model.proofs.Words.Bounds.{m-most}
 
 five : (a b c d e : Bool) → ((a && b) && (c && (d && e))) ≡ (a && (b && (c && (d && (e && true)))))
 five true true true true true = refl
@@ -44,8 +45,8 @@ module _ (m : ℕ) (c : Cap) where
   fourth-decides s p t = rw (s, p, t) at in-order
 
   -- an Untyped is at most half of memory
-  pub untyped-most : mInRange edition32 m ≡ true → (leb (c .kind) 6 && sizeAllowed edition32 m c) ≡ true → isUntyped c ≡ true → c .size ≤ 16
-  unfolding mInRange sizeAllowed
+  pub untyped-most : mInRange edition32 m ≡ true → (leb (c .kind) 6 && sizeAllowed edition32 m c) ≡ true → isUntyped c ≡ true → c .size < 64
+  unfolding sizeAllowed
   untyped-most r s u =
       let w : within 4 (c .size) (m - 1) ≡ true = rw u at (and-right (leb (c .kind) 6) (sizeAllowed edition32 m c) s) in
-      omega (arith, within-parts 4 (c .size) (m - 1) w .1, within-parts 10 m 16 r .1)
+      omega (arith, within-parts 4 (c .size) (m - 1) w .1, m-most m r)

@@ -1,4 +1,3 @@
 mod Shift
 mod Children
 mod Objects
-pub mod Ranges

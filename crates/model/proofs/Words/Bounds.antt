@@ -6,7 +6,7 @@ use mathlib.Core.Bool.{true, false}
 use native.Mathlib.Omega.{arith}
 use lib.ListN.{getD, length}
 use lib.Pow.{pow-mono}
-use Rattle.model.specs.Edition.{edition32}
+use Rattle.model.specs.Edition.{edition32, mostRows}
 use Rattle.model.specs.Cap.{isEmpty, isUntyped}
 use Rattle.model.specs.Tables.{Tables, rows, word, capOf}
 use Rattle.model.specs.Rules.{mInRange, capAllowed, wellFormed}
@@ -16,42 +16,54 @@ use Rattle.model.proofs.Words.Chain.{row-taken}
 use Rattle.model.proofs.Words.WellFormed.{roomy32, formed}
 use Rattle.model.proofs.Words.Held.{counted-most, depth-below}
 
-pub m-range : (m : ℕ) → mInRange edition32 m ≡ true → (10 ≤ m) × (m ≤ 16)
-unfolding mInRange
-m-range m h = within-parts 10 m 16 h
+-- ---- what m in Boot's range gives
 
-pub memory-most : (m : ℕ) → m ≤ 16 → 2 ^ m ≤ 65536
-memory-most m h = pow-mono {i = m} {j = 16} h
+module _ (m : ℕ) (ranged : mInRange edition32 m ≡ true) where
+  pub m-least : 10 ≤ m
+  unfolding mInRange
+  m-least = within-parts 10 m 16 ranged .0
 
-pub rows-most : (m : ℕ) → m ≤ 16 → rows edition32 m ≤ 4096
-unfolding rows
-rows-most m h = pow-mono {i = m - 4} {j = 12} (omega arith)
+  pub m-most : m ≤ 16
+  unfolding mInRange
+  m-most = within-parts 10 m 16 ranged .1
+
+  pub memory-most : 2 ^ m ≤ 65536
+  memory-most = pow-mono {i = m} {j = 16} m-most
+
+  pub rows-most : rows edition32 m ≤ mostRows
+  unfolding rows
+  rows-most = pow-mono {i = m - 4} {j = 12} (omega (arith, m-most))
+
+-- ---- what well-formed tables hold
 
 module _ (t : Tables) (e : wellFormed edition32 t ≡ true) where
   abbrev m : ℕ
   m = getD (t .control) 0 0
 
-  pub m-small : m ≤ 16
-  m-small = m-range m (formed edition32 roomy32 t e .mRange) .1
+  ranged : mInRange edition32 m ≡ true
+  ranged = formed edition32 roomy32 t e .mRange
 
-  pub rows-small : rows edition32 (getD (t .control) 0 0) ≤ 4096
-  rows-small = rows-most m m-small
+  pub memory-small : 2 ^ getD (t .control) 0 0 ≤ 65536
+  memory-small = memory-most m ranged
+
+  pub rows-small : rows edition32 (getD (t .control) 0 0) ≤ mostRows
+  rows-small = rows-most m ranged
 
   pub table-long : length (t .table) ≡ 8 * rows edition32 (getD (t .control) 0 0)
   table-long = formed edition32 roomy32 t e .tableLong
 
-  pub count-small : getD (t .control) 3 0 ≤ 4096
+  pub count-small : getD (t .control) 3 0 ≤ mostRows
   count-small = omega (arith, rows-small, counted-most edition32 roomy32 t e)
 
   module _ (k : ℕ) where
     pub row-below : k * 8 + 8 ≤ length (t .table) → k < rows edition32 (getD (t .control) 0 0)
     row-below h = omega (arith, table-long)
 
-    pub depth-small : isEmpty (capOf (t .table) k) ≡ false → word (t .table) k 7 < 4096
+    pub depth-small : isEmpty (capOf (t .table) k) ≡ false → word (t .table) k 7 < mostRows
     depth-small some = omega (arith, count-small, depth-below edition32 roomy32 t e k some)
 
     pub cap-allowed : k * 8 + 8 ≤ length (t .table) → isEmpty (capOf (t .table) k) ≡ false → capAllowed edition32 (getD (t .control) 0 0) (capOf (t .table) k) ≡ true
     cap-allowed h some = row-taken edition32 m (t .table) k (formed edition32 roomy32 t e .eachRow k (row-below h)) some
 
     pub size-small : k * 8 + 8 ≤ length (t .table) → isUntyped (capOf (t .table) k) ≡ true → capOf (t .table) k .size ≤ 15
-    size-small h untyped = omega (arith, m-small, untyped-size edition32 m (capOf (t .table) k) (cap-allowed h (untyped-filled (capOf (t .table) k) untyped)) untyped .1)
+    size-small h untyped = omega (arith, m-most m ranged, untyped-size edition32 m (capOf (t .table) k) (cap-allowed h (untyped-filled (capOf (t .table) k) untyped)) untyped .1)

@@ -5,7 +5,7 @@ use mathlib.Core.Bool.{false}
 use native.Mathlib.Omega.{arith}
 use borrow.Author.Needs.{needs}
 use denote.Ref.{now}
-use Rattle.model.specs.Edition.{edition32}
+use Rattle.model.specs.Edition.{edition32, mostRows}
 use Rattle.model.specs.Cap.{isEmpty}
 use Rattle.model.specs.Tree.{capAt}
 use Rattle.model.specs.Tables.{Tables, read}
@@ -67,13 +67,13 @@ returns-2 c =
     removes-one (given s) (s .pre .0) (s .args .row .0) (there (d .before .before .before)) (sym (d .before .goes-alone .ensures) ∙ d .if2 .taken) _ (c .before .before .cut .ensures)
 
 count-names-requires : tie.Need-count-names-requires
-count-names-requires c κs = let s = asked (c .before .before .before) in (nodes (given s) (s .pre .0), zeros 4096)
+count-names-requires c κs = let s = asked (c .before .before .before) in (nodes (given s) (s .pre .0), zeros mostRows)
 
 mark-row-requires : tie.Need-mark-row-requires
 mark-row-requires c κs =
     let n = c .before .before .before .before in
     let s = counted n in
-    (nodes (given s) (s .pre .0), (counted-start _ _ (nodes (given s) (s .pre .0)) _ _ (zeros 4096) (n .count-names .ensures), omega (arith, s .pre .1)))
+    (nodes (given s) (s .pre .0), (counted-start _ _ (nodes (given s) (s .pre .0)) _ _ (zeros mostRows) (n .count-names .ensures), omega (arith, s .pre .1)))
 
 spread-requires : tie.Need-spread-requires
 spread-requires c κs =
@@ -82,7 +82,7 @@ spread-requires c κs =
       nodes (given s) (s .pre .0),
       (
         r .mark-row .ensures .counted,
-        r .mark-row .ensures .waiting 0 (waiting-start _ _ (nodes (given s) (s .pre .0)) _ _ (zeros 4096) (names r .count-names .ensures) _ (zeros 4096)),
+        r .mark-row .ensures .waiting 0 (waiting-start _ _ (nodes (given s) (s .pre .0)) _ _ (zeros mostRows) (names r .count-names .ensures) _ (zeros mostRows)),
       ),
     )
 
@@ -98,7 +98,7 @@ returns-3 c =
     let r = d .before .before .before .before .before in
     let s = counted (names r) in
     removes (given s) (s .pre .0) _ (target-there (given s) (s .pre .0) (s .args .row .0)) _ _ _ _
-    (target-marked (given s) (s .pre .0) (s .args .row .0) _ _ (zeros 4096) (r .mark-row .ensures .marks)) (d .spread .ensures) (c .before .before .thin .ensures)
+    (target-marked (given s) (s .pre .0) (s .args .row .0) _ _ (zeros mostRows) (r .mark-row .ensures .marks)) (d .spread .ensures) (c .before .before .thin .ensures)
 
 pub delete-spec : {M : Type 1} → statement M
 delete-spec =

@@ -2,6 +2,7 @@
 use native.Mathlib.Omega.{arith}
 use borrow.Author.Needs.{needs}
 use denote.Ref.{now}
+use Rattle.model.specs.Edition.{mostRows}
 use Rattle.model.specs.Tables.{Tables}
 use Rattle.removal.proofs.Tables.{zeros}
 use Rattle.removal.proofs.Nodes.{nodes}
@@ -14,12 +15,12 @@ abbrev given : tie.Start → Tables
 given s = record { table = now (s .args .t); control = now (s .args .control) }
 
 count-names-requires : tie.Need-count-names-requires
-count-names-requires c κs = let s = c .before .before .before in (nodes (given s) (s .pre .0), zeros 4096)
+count-names-requires c κs = let s = c .before .before .before in (nodes (given s) (s .pre .0), zeros mostRows)
 
 mark-descendants-requires : tie.Need-mark-descendants-requires
 mark-descendants-requires c κs =
     let s = c .before .before .before .before .before .before .before .before .before in
-    (s .pre .0, (counted-start _ _ (nodes (given s) (s .pre .0)) _ _ (zeros 4096) (c .before .before .before .before .before .count-names .ensures), omega (arith, s .pre .1)))
+    (s .pre .0, (counted-start _ _ (nodes (given s) (s .pre .0)) _ _ (zeros mostRows) (c .before .before .before .before .before .count-names .ensures), omega (arith, s .pre .1)))
 
 spread-requires : tie.Need-spread-requires
 spread-requires c κs =
@@ -28,7 +29,7 @@ spread-requires c κs =
       nodes (given s) (s .pre .0),
       (
         r .mark-descendants .ensures .counted,
-        r .mark-descendants .ensures .waiting 0 (waiting-start _ _ (nodes (given s) (s .pre .0)) _ _ (zeros 4096) (r .before .before .before .before .before .before .count-names .ensures) _ (zeros 4096)),
+        r .mark-descendants .ensures .waiting 0 (waiting-start _ _ (nodes (given s) (s .pre .0)) _ _ (zeros mostRows) (r .before .before .before .before .before .before .count-names .ensures) _ (zeros mostRows)),
       ),
     )
 
@@ -44,7 +45,7 @@ returns c =
     let r = d .before .before .before .before .before in
     let s = r .before .before .before .before .before .before .before .before .before .before in
     removes (given s) (s .pre .0) _ (offspring-there (given s) (s .pre .0) (s .args .row .0)) _ _ _ _
-    (offspring-marked (given s) (s .pre .0) (s .args .row .0) _ _ (zeros 4096) (r .mark-descendants .ensures .marks)) (d .spread .ensures) (c .before .before .thin .ensures)
+    (offspring-marked (given s) (s .pre .0) (s .args .row .0) _ _ (zeros mostRows) (r .mark-descendants .ensures .marks)) (d .spread .ensures) (c .before .before .thin .ensures)
 
 pub revoke-spec : {M : Type 1} → statement M
 revoke-spec =

@@ -4,7 +4,8 @@ use mathlib.Core.Path.{_≡_, sym, _∙_}
 use native.Mathlib.Omega.{arith}
 use borrow.Author.Needs.{needs}
 use borrow.Author.Tests.{not-true, not-false}
-use Rattle.table.proofs.Ranges.{m-most}
+use Rattle.model.specs.Edition.{mostRows}
+use Rattle.model.proofs.Words.Bounds.{m-most}
 use Rattle.rules.specs.Owners.{firstCell}
 use Rattle.rules.proofs.Enters.{small, most-bytes, as-cells, in-array, first-in-array, below-typed, outside, is-held, others-own, takes}
 use Rattle.rules.proofs.enter.Statement.{statement}
@@ -13,7 +14,7 @@ use Rattle.rules.proofs.enter.Tie as tie
 cap-up-requires : tie.Need-cap-up-requires
 cap-up-requires c κs =
     let s = c .before in
-    (m-most _ (s .pre .0 .scanned .mRange), λ n. omega (arith, s .pre .1 n, s .pre .0 .scanned .long))
+    (omega (arith, m-most _ (s .pre .0 .scanned .mRange)), λ n. omega (arith, s .pre .1 n, s .pre .0 .scanned .long))
 
 cap-at-requires : tie.Need-cap-at-requires
 cap-at-requires c κs = let s = c .before .before in omega (arith, s .pre .0 .below, s .pre .0 .scanned .long)
@@ -69,7 +70,7 @@ is-first : (c : Found) → c .before .row-of .result .0 ≡ firstCell (read (siz
 unfolding firstCell
 is-first c = c .before .row-of .ensures
 
-first-in : (c : Found) → c .before .row-of .result .0 < 4096
+first-in : (c : Found) → c .before .row-of .result .0 < mostRows
 first-in c = let z = sized c in omega (arith, is-first c, first-in-array _ _ _ (start z .pre .0) _ (read z .cap-at .ensures))
 
 mul-by : tie.Need-mul-by
@@ -92,7 +93,7 @@ returns-3 c =
     is-held _ _ _ _ _ _ _ (read z .before .cap-up .ensures) (read z .cap-at .ensures) (z .before .if1 .left) (sym (i .before .inside-below .ensures) ∙ not-false _ (i .if2 .left)) _ (is-first f)
     (b .if3 .taken) _ (c .beside .ensures)
 
-cells-in : (c : Found) → c .before .row-of .result .0 + sized c .bytes-of .result / 16 ≤ 4096
+cells-in : (c : Found) → c .before .row-of .result .0 + sized c .bytes-of .result / 16 ≤ mostRows
 cells-in c =
     let z = sized c in
     omega (arith, is-first c, as-cells _ _ _ (start z .pre .0) _ (read z .cap-at .ensures) _ (z .bytes-of .ensures), in-array _ _ _ (start z .pre .0) _ (read z .cap-at .ensures))

@@ -5,9 +5,9 @@ use native.Mathlib.Omega.{arith}
 use borrow.Author.Needs.{needs}
 use borrow.Author.Tests.{not-true, not-false}
 use lib.ListN.{length, replicate, length-replicate}
-use Rattle.model.specs.Edition.{edition32}
+use Rattle.model.specs.Edition.{edition32, mostRows}
 use Rattle.model.specs.Tables.{rows, word, follow}
-use Rattle.table.proofs.Ranges.{rows-most}
+use Rattle.model.proofs.Words.Bounds.{rows-most}
 use Rattle.rules.specs.Owners.{walk}
 use Rattle.rules.proofs.Law.{forest-judged}
 use Rattle.rules.proofs.Stepping.{Underway, few, row-below, row-filled, row-shallow, goes-on, stops, begins, row-up, let-in, kept-out, fails, ends}
@@ -16,7 +16,7 @@ use Rattle.rules.proofs.forest_allowed.Tie as tie
 
 abbrev Inv-loop : tie.InvT-loop
 Inv-loop t m head count owner₀ above₀ k₀ left₀ owner above k left =
-    Underway m count t (walk edition32 m t (replicate 4096 0) (replicate 4096 4294967295) (follow edition32 t count head)) above owner k left
+    Underway m count t (walk edition32 m t (replicate mostRows 0) (replicate mostRows 4294967295) (follow edition32 t count head)) above owner k left
 
 abbrev μ-loop : tie.MeasureT-loop
 μ-loop t m head count owner₀ above₀ k₀ left₀ owner above k left = left
@@ -52,7 +52,7 @@ cast-depth c = search needs
 abbrev Deep : Type 0
 Deep = tie.After-word Inv-loop μ-loop
 
-shallow : (c : Deep) → c .word .result < 4096
+shallow : (c : Deep) → c .word .result < mostRows
 shallow c =
     let e : Entry = c .before in
     omega (arith, c .word .ensures, row-shallow (e .before .loop .inv) (e .loop-test .taken), few _ _ _ _ (start e .pre))
@@ -77,7 +77,7 @@ returns c =
     fails _ _ _ _
     (stops (e .before .loop .inv) (e .loop-test .taken) (small e)
     (kept-out _ _ _ _ _ _ _ (a .row-above .ensures) (w .word .ensures) _ _ (n .enter .ensures) (not-true _ (c .if1 .taken))))
-    (forest-judged _ _ _ _ (replicate 4096 0) (start e .pre) (omega (arith, length-replicate {A = ℕ} 4096 0)))
+    (forest-judged _ _ _ _ (replicate mostRows 0) (start e .pre) (omega (arith, length-replicate {A = ℕ} mostRows 0)))
 
 mul-above : tie.Need-mul-above Inv-loop μ-loop
 mul-above c = omega (arith, shallow (c .before .before .before .before .before))
@@ -112,7 +112,7 @@ returns-2 : tie.Need-returns-2 Inv-loop μ-loop
 returns-2 c =
     let l = c .before .before in
     c .housed .ensures
-    ∙ ends (l .before .loop .inv) (l .loop-test .left) _ (forest-judged _ _ _ _ (replicate 4096 0) (l .before .before .before .pre) (omega (arith, length-replicate {A = ℕ} 4096 0)))
+    ∙ ends (l .before .loop .inv) (l .loop-test .left) _ (forest-judged _ _ _ _ (replicate mostRows 0) (l .before .before .before .pre) (omega (arith, length-replicate {A = ℕ} mostRows 0)))
 
 pub forest-allowed-spec : {M : Type 1} → statement M
 forest-allowed-spec =

@@ -6,9 +6,9 @@ use mathlib.Core.Logic.{⊎-elim}
 use native.Mathlib.Omega.{arith}
 use borrow.Author.Needs.{needs}
 use lib.ListN.{length}
-use Rattle.model.specs.Edition.{edition32}
+use Rattle.model.specs.Edition.{edition32, mostRows}
 use Rattle.model.specs.Tables.{rows}
-use Rattle.table.proofs.Ranges.{rows-most}
+use Rattle.model.proofs.Words.Bounds.{rows-most}
 use Rattle.rules.specs.Owners.{homes}
 use Rattle.rules.proofs.Housing.{none-homes, empty-home, node-home, no-home, other-home}
 use Rattle.rules.proofs.housed.Statement.{statement}
@@ -37,7 +37,7 @@ below c = omega (arith, c .loop-test .taken, c .before .before .rows-of .ensures
 inside : (c : Row) → c .before .loop .k * 8 + 8 ≤ length (c .before .before .before .before .args .t .now)
 inside c = omega (arith, below c, c .before .before .before .before .pre .long)
 
-small : (c : Row) → c .before .loop .k < 4096
+small : (c : Row) → c .before .loop .k < mostRows
 small c = omega (arith, below c, rows-most _ (c .before .before .before .before .pre .mRange))
 
 word-requires : tie.Need-word-requires Inv-loop μ-loop

@@ -3,22 +3,19 @@ use mathlib.Core.Path.{sym, _∙_}
 use native.Mathlib.Omega.{arith}
 use borrow.Author.Needs.{needs}
 use borrow.Author.Tests.{not-true, not-false}
-use Rattle.model.specs.Rules.{mInRange}
-use Rattle.model.proofs.Booleans.{within-parts}
+use Rattle.model.proofs.Words.Bounds.{m-least, m-most}
 use Rattle.rules_row.proofs.Tests.{size-fails, place-fails, third-fails, fourth-decides, untyped-most}
 use Rattle.rules_row.proofs.cap_allowed.Statement.{statement}
 use Rattle.rules_row.proofs.cap_allowed.Tie as tie
 
 size-allowed-requires : tie.Need-size-allowed-requires
-unfolding mInRange
-size-allowed-requires c κs = (c .pre .0, omega (arith, within-parts 10 _ 16 (c .pre .1) .0))
+size-allowed-requires c κs = (c .pre .0, omega (arith, m-least _ (c .pre .1)))
 
 returns : tie.Need-returns
 returns c = size-fails _ _ (sym (c .before .size-allowed .ensures) ∙ not-true _ (c .if1 .taken))
 
 place-allowed-requires : tie.Need-place-allowed-requires
-unfolding mInRange
-place-allowed-requires c κs = let s = c .before .before in (s .pre .0, within-parts 10 _ 16 (s .pre .1) .1)
+place-allowed-requires c κs = let s = c .before .before in (s .pre .0, omega (arith, m-most _ (s .pre .1)))
 
 returns-2 : tie.Need-returns-2
 returns-2 c =

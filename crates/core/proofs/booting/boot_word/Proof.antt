@@ -2,7 +2,7 @@
 use native.Mathlib.Omega.{arith}
 use Rattle.model.specs.Rules.{mInRange}
 use Rattle.model.proofs.Booleans.{parts-within}
-use Rattle.table.proofs.Ranges.{rows-most}
+use Rattle.model.proofs.Words.Bounds.{rows-most}
 use Rattle.core.specs.Booting.{bootTable}
 use Rattle.core.proofs.BootRows.{word-of-row}
 use borrow.Author.Needs.{needs}

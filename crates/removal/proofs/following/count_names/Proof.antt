@@ -8,7 +8,7 @@ use native.Mathlib.Omega.{arith}
 use borrow.Author.Needs.{needs}
 use borrow.Author.Tests.{eq-eqb, ne-eqb}
 use denote.Ref.{now}
-use Rattle.model.specs.Edition.{edition32}
+use Rattle.model.specs.Edition.{edition32, mostRows}
 use Rattle.model.specs.Cap.{isCNode, firstRow}
 use Rattle.model.specs.Tables.{capOf}
 use Rattle.model.proofs.Kept.Allowed.{some-slot}
@@ -41,7 +41,7 @@ first-of : (c : Node) → firstRow edition32 (capOf (tableAt (turn c)) (turn c .
 unfolding firstRow
 first-of c = ap (firstRow edition32) (sym (c .before .before .before .before .cap-at .ensures)) ∙ sym (c .before .row-of .ensures)
 
-small : (c : Node) → c .before .row-of .result .0 < 4096
+small : (c : Node) → c .before .row-of .result .0 < mostRows
 small c =
     let n = turn c .before .before .before .pre .0 in
     omega (arith, first-of c, n .few, n .inside (turn c .before .loop .row) (turn c .loop-test .taken) (node-of c), some-slot (capOf (tableAt (turn c)) (turn c .before .loop .row)))

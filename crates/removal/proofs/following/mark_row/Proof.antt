@@ -7,7 +7,7 @@ use native.Mathlib.Omega.{arith}
 use lib.ListN.{length}
 use borrow.Author.Tests.{eq-eqb, ne-eqb}
 use denote.Ref.{now}
-use Rattle.model.specs.Edition.{edition32}
+use Rattle.model.specs.Edition.{edition32, mostRows}
 use Rattle.model.specs.Cap.{isEmpty, isCNode, firstRow, slots}
 use Rattle.model.specs.Tables.{capOf}
 use Rattle.model.proofs.Kept.Allowed.{some-slot}
@@ -56,7 +56,7 @@ inside c =
     s .pre .0 .inside (s .args .row) (s .pre .1 .1) (node-of c) in
     omega (arith, some-slot (capOf (now (s .args .t)) (s .args .row)))
 
-small : (c : Node) → c .before .row-of .result .0 < 4096
+small : (c : Node) → c .before .row-of .result .0 < mostRows
 small c = omega (arith, inside c, cap-known c .before .before .pre .0 .few)
 
 new : (c : Node) → marked (now (cap-known c .before .before .args .mark)) (cap-known c .before .before .args .row) ≡ false
@@ -68,7 +68,7 @@ there c = is-there (cap-known c) (c .before .before .before .before .before .bef
 in-mark : (c : tie.After-cap-at) → c .before .before .args .row < length (now (c .before .before .args .mark))
 in-mark c = omega (arith, c .before .before .pre .1 .0 .long, c .before .before .pre .1 .1)
 
-room : (c : Node) → cap-known c .before .before .args .filled < 4096
+room : (c : Node) → cap-known c .before .before .args .filled < mostRows
 room c =
     let s = cap-known c .before .before in
     omega (arith, room-left (rowCount (now (s .args .t))) (capOf (now (s .args .t))) (now (s .args .mark)) (s .args .row) (s .pre .1 .1) (in-mark (cap-known c)) (new c) (node-of c) _ (first-of c) (now (s .args .counts)) (inside c) (s .args .filled) (s .pre .1 .0), s .pre .0 .few)

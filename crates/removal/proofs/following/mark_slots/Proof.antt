@@ -6,7 +6,7 @@ use native.Mathlib.Omega.{arith}
 use borrow.Author.Needs.{needs}
 use denote.Ref.{now}
 use Rattle.model.specs.declared.Cap.{Cap}
-use Rattle.model.specs.Edition.{edition32}
+use Rattle.model.specs.Edition.{edition32, mostRows}
 use Rattle.model.specs.Cap.{firstRow, slots}
 use Rattle.model.specs.Tables.{capOf}
 use Rattle.removal.specs.Marking.{rowCount, Marks, between}
@@ -38,7 +38,7 @@ begins c = ap (firstRow edition32) (sym (c .before .before .cap-at .ensures)) �
 fit : (c : Node) → firstRow edition32 (named c) + slots (named c) ≤ rowCount (now (from c .args .t))
 fit c = from c .pre .0 .inside (from c .args .node) (from c .pre .1 .1 .0) (from c .pre .1 .1 .1)
 
-few : (c : Node) → slots (c .before .before .cap-at .result) ≤ 4096
+few : (c : Node) → slots (c .before .before .cap-at .result) ≤ mostRows
 few c = omega (arith, fit c, from c .pre .0 .few, ap slots (c .before .before .cap-at .ensures))
 
 ends : (c : Node) → firstRow edition32 (named c) + slots (named c) ≡ c .before .row-of .result .0 + 1 * 2 ^ c .before .before .cap-at .result .size % 4294967296

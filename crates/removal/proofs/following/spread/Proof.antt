@@ -4,6 +4,7 @@ use Prim.Native.Nat.{_-_, _<_}
 use native.Mathlib.Omega.{arith}
 use lib.ListN.{getD}
 use denote.Ref.{now}
+use Rattle.model.specs.Edition.{mostRows}
 use Rattle.model.specs.Tables.{capOf}
 use Rattle.removal.specs.Marking.{rowCount, Counted, Waiting, Lost}
 use Rattle.removal.proofs.Marking.{counted-few}
@@ -21,7 +22,7 @@ abbrev μ-loop : tie.MeasureT-loop
 loop-holds : tie.Need-loop-holds Inv-loop μ-loop
 loop-holds c = let s = c .before in (s .pre .1 .0, s .pre .1 .1, growing-none _ _ (s .pre .0) _)
 
-at : (c : tie.In-loop Inv-loop μ-loop) → c .before .loop .taken < 4096
+at : (c : tie.In-loop Inv-loop μ-loop) → c .before .loop .taken < mostRows
 at c = omega (arith, counted-few (c .before .loop .inv .0), c .before .before .before .pre .0 .few, c .loop-test .taken)
 
 lost : (c : tie.In-loop Inv-loop μ-loop) → Lost (rowCount (now (c .before .before .before .args .t))) (capOf (now (c .before .before .before .args .t))) (c .before .loop .counts) (getD (c .before .loop .work) (c .before .loop .taken) 0)

@@ -7,7 +7,7 @@ use native.Mathlib.Omega.{arith}
 use borrow.Author.Needs.{needs}
 use lib.ListN.{length, getD, set}
 use denote.Ref.{now}
-use Rattle.model.specs.Edition.{edition32}
+use Rattle.model.specs.Edition.{edition32, mostRows}
 use Rattle.model.specs.Stores.{unlinked}
 use Rattle.model.proofs.Words.Bounds.{rows-small, table-long}
 use Rattle.removal.specs.Marking.{marked}
@@ -28,7 +28,7 @@ abbrev μ-loop : tie.MeasureT-loop
 abbrev Turn : Type 0
 Turn = tie.In-loop Inv-loop μ-loop
 
-at-row : (l : Turn) → l .before .loop .row < 4096
+at-row : (l : Turn) → l .before .loop .row < mostRows
 at-row l =
     let s = l .before .before .before .before .before in
     omega (arith, walk-row _ _ _ _ _ _ _ _ _ _ _ _ (l .before .loop .inv) (l .loop-test .taken), rows-small (record { table = now (s .args .t); control = now (s .args .control) }) (s .pre))
@@ -43,7 +43,7 @@ Read = tie.After-word2 Inv-loop μ-loop
 abbrev turn : Read → Turn
 turn c = c .before .before .before .before
 
-depth-small : (c : Read) → c .word2 .result < 4096
+depth-small : (c : Read) → c .word2 .result < mostRows
 depth-small c = omega (arith, c .word2 .ensures, walk-small _ _ _ _ _ _ _ _ _ _ _ _ (turn c .before .loop .inv) (turn c .loop-test .taken))
 
 element-copy-out-total : tie.Need-element-copy-out-total Inv-loop μ-loop
@@ -53,7 +53,7 @@ element-copy-out-row : tie.Need-element-copy-out-row Inv-loop μ-loop
 element-copy-out-row c = search needs
 
 loop-holds : tie.Need-loop-holds Inv-loop μ-loop
-loop-holds c = let s = c .before .before .before in walk-start (record { table = now (s .args .t); control = now (s .args .control) }) (s .pre) _ _ (zeros 4097)
+loop-holds c = let s = c .before .before .before in walk-start (record { table = now (s .args .t); control = now (s .args .control) }) (s .pre) _ _ (zeros (mostRows + 1))
 
 word-requires : tie.Need-word-requires Inv-loop μ-loop
 word-requires c κs = (omega arith, in-table (c .before))
@@ -155,7 +155,7 @@ same-length c =
 returns : tie.Need-returns Inv-loop μ-loop
 returns c =
     let s = c .before .before .before .before .before in
-    thins (record { table = now (s .args .t); control = now (s .args .control) }) (s .pre) _ _ _ (zeros 4097) _ _ _ _ _ _ (c .before .loop .inv) (omega (arith, c .loop-test .left))
+    thins (record { table = now (s .args .t); control = now (s .args .control) }) (s .pre) _ _ _ (zeros (mostRows + 1)) _ _ _ _ _ _ (c .before .loop .inv) (omega (arith, c .loop-test .left))
 
 pub thin-spec : {M : Type 1} → statement M
 thin-spec =

@@ -9,6 +9,7 @@ use lib.Dec.{eqb, ltb}
 use lib.Pow.{pow-pos}
 use borrow.Author.Needs.{needs}
 use borrow.Author.Tests.{eq-eqb, ne-eqb}
+use Rattle.model.specs.Edition.{mostRows}
 use Rattle.model.specs.Cap.{slots, firstRow}
 use Rattle.retype.proofs.Windows.{node-kind, no-node, radix-small, offset-beyond, window-out, window-wide, window-fits}
 use Rattle.retype.proofs.place.window.Statement.{statement}
@@ -21,7 +22,7 @@ slots-of-requires : tie.Need-slots-of-requires
 slots-of-requires c κs = omega (arith, radix-small _ (c .before .before .pre) (c .if1 .left))
 
 -- the slots that are there
-few : (c : tie.After-slots-of) → c .slots-of .result ≤ 4096
+few : (c : tie.After-slots-of) → c .slots-of .result ≤ mostRows
 few c = omega (arith, c .slots-of .ensures, c .before .before .before .pre (node-kind _ (c .before .if1 .left)))
 
 cast-slots : tie.Need-cast-slots

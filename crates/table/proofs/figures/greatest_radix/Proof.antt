@@ -1,7 +1,7 @@
 -- The smaller of 8 and m - 5, by cases.
 use native.Mathlib.Omega.{arith}
 use Rattle.model.specs.Rules.{greatestR}
-use Rattle.table.proofs.Ranges.{m-least}
+use Rattle.model.proofs.Words.Bounds.{m-least}
 use Rattle.table.proofs.figures.greatest_radix.Statement.{statement}
 use Rattle.table.proofs.figures.greatest_radix.Tie as tie
 

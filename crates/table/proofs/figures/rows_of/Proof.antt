@@ -1,7 +1,7 @@
 -- The power of two fits a word.
 use native.Mathlib.Omega.{arith}
 use Rattle.model.specs.Tables.{rows}
-use Rattle.table.proofs.Ranges.{m-least, m-most, rows-most}
+use Rattle.model.proofs.Words.Bounds.{m-least, m-most, rows-most}
 use Rattle.table.proofs.figures.rows_of.Statement.{statement}
 use Rattle.table.proofs.figures.rows_of.Tie as tie
 
