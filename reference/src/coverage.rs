@@ -9,7 +9,7 @@ use std::collections::{BTreeMap, BTreeSet};
 use std::io::{self, Write};
 
 /// What must be met besides the rules and the operations: answers with their details, and events.
-const MUST: [&str; 71] = [
+const MUST: [&str; 74] = [
     "answer 0",
     "answer 1 argument 0",
     "answer 1 argument 1",
@@ -75,6 +75,9 @@ const MUST: [&str; 71] = [
     "Delete of one row",
     "Delete of several rows",
     "Delete of an Untyped with children",
+    "Delete of a name of a CNode beside another",
+    "Delete of a name of a CNode far from another",
+    "Delete of the only name of an empty CNode",
     "Revoke of an empty slot",
     "Revoke without descendants",
     "Revoke of descendants",
@@ -165,6 +168,23 @@ fn ring_names(state: &State) -> Vec<String> {
     names
 }
 
+/// Where another name of the CNode in a row stands: in the list beside it, further away, or nowhere.
+fn cnode_name(state: &State, row: Row) -> Option<&'static str> {
+    let object = state.caps[&row].object;
+    if object.kind != Kind::CNode {
+        return None;
+    }
+    let place = state.place_of(row);
+    let names = |at: usize| state.list.get(at).map_or(false, |other| state.caps[&other.row].object == object);
+    if names(place + 1) || place.checked_sub(1).map_or(false, names) {
+        Some("Delete of a name of a CNode beside another")
+    } else if state.naming(object).len() > 1 {
+        Some("Delete of a name of a CNode far from another")
+    } else {
+        Some("Delete of the only name of an empty CNode")
+    }
+}
+
 /// The events of a success, seen by comparing the states before and after.
 fn events(before: &State, after: &State, message: &[u32], count: u32) -> Vec<String> {
     let operation = message[0];
@@ -203,6 +223,9 @@ fn events(before: &State, after: &State, message: &[u32], count: u32) -> Vec<Str
             });
             if gone.iter().any(|row| before.caps[row].kind() == Kind::Untyped && before.has_children(*row)) {
                 met("Delete of an Untyped with children");
+            }
+            if let [row] = gone[..] {
+                cnode_name(before, row).into_iter().for_each(met);
             }
         }
         7 => met(if new.is_empty() {

@@ -219,12 +219,33 @@ fn after_subtree(state: &State, position: usize) -> usize {
     position + 1 + state.descendants(state.list[position].row).len()
 }
 
+/// A copy of a CNode that no longer stands below its original but as the last of the siblings of that, away from the CNode's other names.
+fn far_name(state: &State, random: &mut Random) -> Option<State> {
+    let original = |position: usize| {
+        let typed = |at: &usize| cap_at(state, *at).object.typed();
+        state.ancestors(position).into_iter().filter(typed).min()
+    };
+    let copy = |position: usize| cap_at(state, position).kind() == Kind::CNode && original(position).is_some();
+    let from = place_where(state, random, copy)?;
+    let top = original(from)?;
+    let depth = state.list[top].depth;
+    let mut wild = state.clone();
+    let mut taken: Vec<Place> = wild.list.drain(from..after_subtree(state, from)).collect();
+    let lower = state.list[from].depth - depth;
+    taken.iter_mut().for_each(|place| place.depth -= lower);
+    let past = |position: &usize| wild.list.get(*position).map_or(true, |place| place.depth < depth);
+    let to = (top + 1..).find(past)?;
+    wild.list.splice(to..to, taken);
+    Some(wild)
+}
+
 /// Tables that are likely well-formed though no request makes them: two siblings change places with all below them, a
 /// copy becomes its source's sibling, or one word changes a little.
 pub fn unusual(tables: &Tables, state: &State, random: &mut Random) -> Option<Tables> {
     let mut new = tables.clone();
-    match random.below(3) {
-        0 => {
+    match random.below(4) {
+        0 => new.write(&far_name(state, random)?),
+        1 => {
             let next_is_sibling = |position: usize| {
                 let next = after_subtree(state, position);
                 next < state.list.len() && state.list[next].depth == state.list[position].depth
@@ -236,7 +257,7 @@ pub fn unusual(tables: &Tables, state: &State, random: &mut Random) -> Option<Ta
             swapped.list[first..end].rotate_left(second - first);
             new.write(&swapped);
         }
-        1 => {
+        2 => {
             let copy = |position: usize| parent_is(state, position, |parent| parent.object.typed());
             let position = place_where(state, random, copy)?;
             let end = after_subtree(state, position);
