@@ -38,6 +38,9 @@ names r = r .before .before .before .before .before
 there : (e : tie.Else1) → isEmpty (capAt (read edition32 (given (found e)) .forest) (found e .args .row .0)) ≡ false
 there e = let s = found e in there-at (given s) (s .pre .0) (s .args .row .0) _ (e .before .word .ensures) (e .if1 .left)
 
+abbrev spreads : tie.After-slice-known3 → tie.After-spread
+spreads c = c .before .before .before .before .before .before
+
 word-requires : tie.Need-word-requires
 word-requires c κs = search needs
 
@@ -94,7 +97,7 @@ same-length-3 c = search needs
 
 returns-3 : tie.Need-returns-3
 returns-3 c =
-    let d = c .before .before .before .before .before .before in
+    let d = spreads c in
     let r = d .before .before .before .before .before in
     let s = counted (names r) in
     removes (given s) (s .pre .0) _ (target-there (given s) (s .pre .0) (s .args .row .0)) _ _ _ _

@@ -36,6 +36,10 @@ from l = l .before .before .before .before .before .before .before .before
 at-row : (l : Turn) → (l .before .loop .next ≡ 4294967295 → ⊥) → l .before .loop .next < rowCount (now (from l .args .t))
 at-row l ne = descent-row _ _ _ _ _ _ _ (l .before .loop .inv .2) ne
 
+-- the turn that ends with the next row
+abbrev turn : tie.After-word5 Inv-loop μ-loop → Turn
+turn c = c .before .before .before .before .before .before .before .before
+
 word-requires : tie.Need-word-requires Inv-loop μ-loop
 word-requires c κs = (omega arith, omega (arith, c .before .pre .1 .1))
 
@@ -84,10 +88,10 @@ word-requires-5 c κs =
     (omega arith, omega (arith, at-row (e .before) (e .if2 .left)))
 
 sub-left : tie.Need-sub-left Inv-loop μ-loop
-sub-left c = c .before .before .before .before .before .before .before .before .loop-test .taken
+sub-left c = turn c .loop-test .taken
 
 loop-less : tie.Need-loop-less Inv-loop μ-loop
-loop-less c = omega (arith, c .before .before .before .before .before .before .before .before .loop-test .taken)
+loop-less c = omega (arith, turn c .loop-test .taken)
 
 loop-again : tie.Need-loop-again Inv-loop μ-loop
 loop-again c =

@@ -28,6 +28,14 @@ stands s = place (given s) (s .pre .0) (s .args .row) (there-of (given s) (s .ar
 row-in : (s : tie.Start) → s .args .row < rowCount (now (s .args .t))
 row-in s = row-below-n (given s) (s .pre .0) (s .args .row) (stands s)
 
+-- ---- the start, from where both links and the count are read; and that, from where what is below is raised
+
+abbrev start : tie.After-count → tie.Start
+start c = c .before .before .before .before .before .before .before .before
+
+abbrev counted : tie.After-raise-descendants → tie.After-count
+counted r = r .before .before .before
+
 word-requires : tie.Need-word-requires
 word-requires c κs = (omega arith, omega (arith, row-in (c .before .before)))
 
@@ -44,13 +52,16 @@ element-copy-out-count : tie.Need-element-copy-out-count
 element-copy-out-count c = search needs
 
 sub-count : tie.Need-sub-count
-sub-count c = let s = c .before .before .before .before .before .before .before .before in some-row (given s) (s .pre .0) (s .args .row) (stands s)
+sub-count c = let s = start c in some-row (given s) (s .pre .0) (s .args .row) (stands s)
 
 raise-descendants-requires : tie.Need-raise-descendants-requires
 raise-descendants-requires c κs = search needs
 
 unlink-requires : tie.Need-unlink-requires
-unlink-requires c κs = let s = c .before .before .before .before .before .before .before .before .before .before .before .before .before .before in omega (arith, row-in s, ap length (c .before .before .before .raise-descendants .ensures .is (stands s)), run-long (now (s .args .t)) (listedUnder (stands s)))
+unlink-requires c κs =
+    let r = c .before .before .before in
+    let s = start (counted r) in
+    omega (arith, row-in s, ap length (r .raise-descendants .ensures .is (stands s)), run-long (now (s .args .t)) (listedUnder (stands s)))
 
 element-write-control : tie.Need-element-write-control
 element-write-control c = search needs

@@ -47,6 +47,10 @@ long l = raised-long _ _ _ _ _ _ (l .loop .inv (stands (from l)))
 as-long : (l : tie.At-loop Inv-loop μ-loop) → length (l .loop .t) ≡ length (now (from l .args .t))
 as-long l = omega (arith, long l, table-long (given (from l)) (from l .pre .0))
 
+-- the turn that ends with a depth stored
+abbrev turn : tie.After-slice-known2 Inv-loop μ-loop → tie.In-loop Inv-loop μ-loop
+turn c = c .before .before .before .before .before .before .before .before .before .before
+
 word-requires : tie.Need-word-requires Inv-loop μ-loop
 word-requires c κs = (omega arith, omega (arith, row-in (c .before .before)))
 
@@ -84,10 +88,10 @@ put-requires : tie.Need-put-requires Inv-loop μ-loop
 put-requires c κs = let e = c .before .before .before .before .before .before in (omega arith, omega (arith, at-row (e .before .before) (e .if1 .left), long (e .before .before)))
 
 sub-rows : tie.Need-sub-rows Inv-loop μ-loop
-sub-rows c = c .before .before .before .before .before .before .before .before .before .before .loop-test .taken
+sub-rows c = turn c .loop-test .taken
 
 loop-less : tie.Need-loop-less Inv-loop μ-loop
-loop-less c = omega (arith, c .before .before .before .before .before .before .before .before .before .before .loop-test .taken)
+loop-less c = omega (arith, turn c .loop-test .taken)
 
 loop-again : tie.Need-loop-again Inv-loop μ-loop
 loop-again c =
