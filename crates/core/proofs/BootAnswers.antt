@@ -14,17 +14,10 @@ use Rattle.model.specs.Check.{refuse, _>>_}
 use Rattle.model.specs.Tables.{Tables, rows, write}
 use Rattle.model.specs.Rules.{mInRange, greatestR, rInRange, lengthsFit}
 use Rattle.model.specs.Request.{concluded, booted, boot}
-use Rattle.model.proofs.Booleans.{and-left, and-right, within-parts}
+use Rattle.model.proofs.Booleans.{and-left, and-right}
 use Rattle.model.proofs.Words.Booted.{control-booted}
-use Rattle.model.proofs.Words.Bounds.{m-least, m-most}
-use Rattle.core.specs.Booting.{Range, bootTable}
-
-pub in-range : (m r : ℕ) → mInRange edition32 m ≡ true → rInRange edition32 m r ≡ true → Range m r
-unfolding rInRange greatestR
-in-range m r ranged rangedR =
-    let q = within-parts 4 r (greatestR edition32 m) rangedR in
-    let least = m-least m ranged in
-    record { leastM = least; greatestM = m-most m ranged; leastR = q .0; greatestR = omega arith; room = omega arith }
+use Rattle.model.proofs.Words.Bounds.{radix-room}
+use Rattle.core.specs.Booting.{bootTable}
 
 -- all four control words stored
 pub four-stored : (ws : List ℕ) (a b c d : ℕ) → length ws ≡ 4 → set (set (set (set ws 0 a) 1 b) 2 c) 3 d ≡ a ∷ b ∷ c ∷ d ∷ []
@@ -65,4 +58,4 @@ module _ (t : Tables) (m r : ℕ) where
           (ap (λ (ws : List ℕ). record { answer = Success 0; tables = record { table = write edition32 (booted edition32 m r) .table; control = ws } }) control)
         where
           control : m ∷ r ∷ 0 ∷ (m - r - 3) ∷ [] ≡ write edition32 (booted edition32 m r) .control
-          control = ap (λ (n : ℕ). m ∷ r ∷ 0 ∷ n ∷ []) (omega (arith, in-range m r ranged rangedR .room)) ∙ sym (control-booted edition32 m r)
+          control = ap (λ (n : ℕ). m ∷ r ∷ 0 ∷ n ∷ []) (omega (arith, radix-room m ranged r rangedR)) ∙ sym (control-booted edition32 m r)

@@ -17,6 +17,7 @@ use Rattle.model.specs.Request.{booted}
 use Rattle.model.proofs.Distinct.{Order, less, same, more, order}
 use Rattle.model.proofs.Words.Rows.{rowAt, eight-at, length-rowsFrom}
 use Rattle.model.proofs.Words.Booted.{row-booted, row-unbooted}
+use Rattle.model.proofs.Words.Bounds.{m-most, radix-room}
 use Rattle.core.specs.Booting.{Range, bootTable}
 
 -- 2^e in a word of 32 bits
@@ -24,12 +25,15 @@ shifted : (e : ℕ) → e < 32 → (1 * 2 ^ e) % 4294967296 ≡ 2 ^ e
 shifted e h = shl-exact {a = 1} 1 e 32 (lit< tt) (omega arith) ∙ one-mul (2 ^ e)
 
 module _ (m r : ℕ) (range : Range m r) where
+  room : r + 5 ≤ m
+  room = radix-room m (range .mIn) r (range .rIn)
+
   row-zero : 0 < rows edition32 m → 5 ∷ 0 ∷ r ∷ 0 ∷ (32 - r) ∷ 1 ∷ 4294967295 ∷ 0 ∷ [] ≡ rowAt (bootTable m r) 0
   unfolding bootTable
   row-zero inside =
       sym
       (row-booted edition32 m r 0 inside (omega arith)
-      ∙ ap (λ b. 5 ∷ 0 ∷ r ∷ 0 ∷ (32 - r) ∷ cond b 4294967295 1 ∷ 4294967295 ∷ 0 ∷ []) (ne-eqb 0 (m - (r + 4)) (λ e. omega (arith, range .room))))
+      ∙ ap (λ b. 5 ∷ 0 ∷ r ∷ 0 ∷ (32 - r) ∷ cond b 4294967295 1 ∷ 4294967295 ∷ 0 ∷ []) (ne-eqb 0 (m - (r + 4)) (λ e. omega (arith, room))))
 
   row-untyped : (i next : ℕ) → suc i < rows edition32 m → suc i ≤ m - r - 4 → next ≡ cond (eqb (suc i) (m - (r + 4))) 4294967295 (suc (suc i))
       → 1 ∷ (1 * 2 ^ (r + 3 + suc i)) % 4294967296 ∷ (r + 3 + suc i) ∷ 0 ∷ 0 ∷ next ∷ (suc i - 1) ∷ 0 ∷ [] ≡ rowAt (bootTable m r) (suc i)
@@ -37,7 +41,7 @@ module _ (m r : ℕ) (range : Range m r) where
   row-untyped i next inside low after =
       let size : r + 3 + suc i ≡ r + 4 + i = omega arith in
       let before : suc i - 1 ≡ i = omega arith in
-      ap (λ w. 1 ∷ w ∷ (r + 3 + suc i) ∷ 0 ∷ 0 ∷ next ∷ (suc i - 1) ∷ 0 ∷ []) (shifted (r + 3 + suc i) (omega (arith, range .room, range .greatestM)))
+      ap (λ w. 1 ∷ w ∷ (r + 3 + suc i) ∷ 0 ∷ 0 ∷ next ∷ (suc i - 1) ∷ 0 ∷ []) (shifted (r + 3 + suc i) (omega (arith, room, m-most m (range .mIn))))
       ∙ ap₂ (λ n w. 1 ∷ 2 ^ n ∷ n ∷ 0 ∷ 0 ∷ next ∷ w ∷ 0 ∷ []) size before
       ∙ ap (λ w. 1 ∷ 2 ^ (r + 4 + i) ∷ (r + 4 + i) ∷ 0 ∷ 0 ∷ w ∷ i ∷ 0 ∷ []) after
       ∙ sym (row-booted edition32 m r (suc i) inside (omega arith))

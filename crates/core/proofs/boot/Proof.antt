@@ -5,8 +5,9 @@ use native.Mathlib.Omega.{arith}
 use borrow.Author.Tests.{not-true, not-false}
 use Rattle.model.specs.Edition.{edition32}
 use Rattle.model.specs.Rules.{mInRange, rInRange, lengthsFit}
+use Rattle.model.proofs.Words.Bounds.{radix-room}
 use Rattle.core.specs.Booting.{Range}
-use Rattle.core.proofs.BootAnswers.{m-out-of-range, r-out-of-range, in-range, lengths, four-stored, other-length, fresh-host}
+use Rattle.core.proofs.BootAnswers.{m-out-of-range, r-out-of-range, lengths, four-stored, other-length, fresh-host}
 use borrow.Author.Needs.{needs}
 use Rattle.core.proofs.boot.Statement.{statement}
 use Rattle.core.proofs.boot.Tie as tie
@@ -28,7 +29,7 @@ abbrev start : tie.After-lengths-fit → tie.Start
 start c = first (second c) .before .before .before
 
 ranged : (c : tie.After-lengths-fit) → Range (start c .args .m) (start c .args .r)
-ranged c = in-range _ _ (m-ranged (first (second c))) (r-ranged (second c))
+ranged c = record { mIn = m-ranged (first (second c)); rIn = r-ranged (second c) }
 
 fit : (c : tie.Else3) → lengthsFit edition32 (start (c .before) .args .m) (record { table = start (c .before) .args .table .now; control = start (c .before) .args .control .now }) ≡ true
 fit c = sym (c .before .lengths-fit .ensures) ∙ not-false _ (c .if3 .left)
@@ -75,10 +76,10 @@ element-write-control-3 : tie.Need-element-write-control-3
 element-write-control-3 c = search needs
 
 sub-control : tie.Need-sub-control
-sub-control c = (let g = ranged (passed c .before) in omega (arith, g .room))
+sub-control c = let g = ranged (passed c .before) in omega (arith, radix-room _ (g .mIn) _ (g .rIn))
 
 sub-control-2 : tie.Need-sub-control-2
-sub-control-2 c = (let g = ranged (passed c .before) in omega (arith, g .room))
+sub-control-2 c = let g = ranged (passed c .before) in omega (arith, radix-room _ (g .mIn) _ (g .rIn))
 
 element-write-control-4 : tie.Need-element-write-control-4
 element-write-control-4 c = search needs

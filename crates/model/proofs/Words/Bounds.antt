@@ -9,7 +9,7 @@ use lib.Pow.{pow-mono}
 use Rattle.model.specs.Edition.{edition32, mostRows}
 use Rattle.model.specs.Cap.{isEmpty, isUntyped}
 use Rattle.model.specs.Tables.{Tables, rows, word, capOf}
-use Rattle.model.specs.Rules.{mInRange, capAllowed, wellFormed}
+use Rattle.model.specs.Rules.{mInRange, greatestR, rInRange, capAllowed, wellFormed}
 use Rattle.model.proofs.Booleans.{within-parts}
 use Rattle.model.proofs.Kept.Allowed.{untyped-size, untyped-filled}
 use Rattle.model.proofs.Words.Chain.{row-taken}
@@ -33,6 +33,11 @@ module _ (m : ℕ) (ranged : mInRange edition32 m ≡ true) where
   pub rows-most : rows edition32 m ≤ mostRows
   unfolding rows
   rows-most = pow-mono {i = m - 4} {j = 12} (omega (arith, m-most))
+
+  -- a boot CNode and an Untyped as large as it have room
+  pub radix-room : (r : ℕ) → rInRange edition32 m r ≡ true → r + 5 ≤ m
+  unfolding rInRange greatestR
+  radix-room r inR = omega (arith, within-parts 4 r (greatestR edition32 m) inR .1, m-least)
 
 -- ---- what well-formed tables hold
 

@@ -1,7 +1,6 @@
 -- A word of the table is a word of its row.
 use native.Mathlib.Omega.{arith}
 use Rattle.model.specs.Rules.{mInRange}
-use Rattle.model.proofs.Booleans.{parts-within}
 use Rattle.model.proofs.Words.Bounds.{rows-most}
 use Rattle.core.specs.Booting.{bootTable}
 use Rattle.core.proofs.BootRows.{word-of-row}
@@ -11,7 +10,7 @@ use Rattle.core.proofs.booting.boot_word.Tie as tie
 
 cast-boot-row : tie.Need-cast-boot-row
 unfolding mInRange
-cast-boot-row c = let g = c .pre .0 in omega (arith, c .pre .1, rows-most (c .args .m) (parts-within 10 _ 16 (g .leastM) (g .greatestM)))
+cast-boot-row c = let g = c .pre .0 in omega (arith, c .pre .1, rows-most (c .args .m) (g .mIn))
 
 boot-row-requires : tie.Need-boot-row-requires
 boot-row-requires c κs = search needs
