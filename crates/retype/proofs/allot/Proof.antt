@@ -11,6 +11,10 @@ use Rattle.retype.proofs.allot.Tie as tie
 abbrev entry : tie.After-start → tie.Start
 entry s = s .before .before .before .before .before
 
+-- where the memory is found, from where the request is carried out
+abbrev found : tie.After-lay-out-arg2 → tie.After-memory2
+found l = l .before .before .before
+
 cap-at-requires : tie.Need-cap-at-requires
 cap-at-requires c κs = search needs
 
@@ -28,10 +32,10 @@ enum-known-memory-2 c = search needs
 
 lay-out-requires : tie.Need-lay-out-requires
 lay-out-requires c κs =
-    let m = c .before .before .before .before .before in
+    let m = found c .before .before in
     let s = m .before in
     layable _ _ _ _ (entry s .pre) _ _ (s .before .before .cap-at .ensures) (s .start .ensures) _
-    (ap ofMemory (sym (c .before .before .before .memory2 .given .1)) ∙ m .memory-for .ensures)
+    (ap ofMemory (sym (found c .memory2 .given .1)) ∙ m .memory-for .ensures)
 
 same-length : tie.Need-same-length
 same-length c = search needs
@@ -48,11 +52,12 @@ same-length-2 c = search needs
 
 returns-2 : tie.Need-returns-2
 returns-2 c =
-    let m = c .before .before .before .before .before .before .before .before in
+    let laid = c .before .before in
+    let f = found (laid .before) in
+    let m = f .before .before in
     let s = m .before in
     allot-done _ _ _ _ (entry s .pre) _ _ (s .before .before .cap-at .ensures) (s .start .ensures) _
-    (ap ofMemory (sym (c .before .before .before .before .before .before .memory2 .given .1)) ∙ m .memory-for .ensures) _
-    (c .before .before .lay-out .ensures)
+    (ap ofMemory (sym (f .memory2 .given .1)) ∙ m .memory-for .ensures) _ (laid .lay-out .ensures)
 
 pub allot-spec : {M : Type 1} → statement M
 allot-spec =

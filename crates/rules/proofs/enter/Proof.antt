@@ -98,28 +98,36 @@ cells-in c =
     let z = sized c in
     omega (arith, is-first c, as-cells _ _ _ (start z .pre .0) _ (read z .cap-at .ensures) _ (z .bytes-of .ensures), in-array _ _ _ (start z .pre .0) _ (read z .cap-at .ensures))
 
+-- ---- no sibling has its first cell: where that is known, from where all its cells are tested; and where it lies
+
+abbrev alone : tie.After-owned-by → tie.Else3
+alone w = w .before .before
+
+abbrev lies : tie.Else3 → Found
+lies b = b .before .before
+
 owned-by-requires : tie.Need-owned-by-requires
-owned-by-requires c κs = cells-in (c .before .before .before)
+owned-by-requires c κs = cells-in (lies (c .before))
 
 returns-4 : tie.Need-returns-4
 returns-4 c =
     let w = c .before in
-    let b = w .before .before in
-    let f : Found = b .before .before in
+    let b = alone w in
+    let f = lies b in
     let i = f .before .before in
     let z = sized f in
     others-own _ _ _ _ _ _ _ (read z .before .cap-up .ensures) (read z .cap-at .ensures) (z .before .if1 .left) (sym (i .before .inside-below .ensures) ∙ not-false _ (i .if2 .left)) _ (is-first f)
     (b .if3 .left) _ (as-cells _ _ _ (start z .pre .0) _ (read z .cap-at .ensures) _ (z .bytes-of .ensures)) (sym (w .owned-by .ensures) ∙ not-true _ (c .if4 .taken)) _
 
 take-requires : tie.Need-take-requires
-take-requires c κs = cells-in (c .before .before .before .before .before .before)
+take-requires c κs = cells-in (lies (alone (c .before .before)))
 
 returns-5 : tie.Need-returns-5
 returns-5 c =
     let e = c .before .before in
     let w = e .before in
-    let b = w .before .before in
-    let f : Found = b .before .before in
+    let b = alone w in
+    let f = lies b in
     let i = f .before .before in
     let z = sized f in
     takes _ _ _ _ _ _ _ (read z .before .cap-up .ensures) (read z .cap-at .ensures) (z .before .if1 .left) (sym (i .before .inside-below .ensures) ∙ not-false _ (i .if2 .left)) _ (is-first f)

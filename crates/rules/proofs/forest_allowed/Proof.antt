@@ -52,6 +52,14 @@ cast-depth c = search needs
 abbrev Deep : Type 0
 Deep = tie.After-word Inv-loop μ-loop
 
+-- ---- back from where it is entered: the row above it is known, its depth is known
+
+abbrev above : tie.After-enter Inv-loop μ-loop → tie.After-row-above Inv-loop μ-loop
+above n = n .before .before
+
+abbrev deep : tie.After-row-above Inv-loop μ-loop → Deep
+deep a = a .before .before
+
 shallow : (c : Deep) → c .word .result < mostRows
 shallow c =
     let e : Entry = c .before in
@@ -63,7 +71,7 @@ row-above-requires c κs = omega (arith, shallow (c .before))
 enter-requires : tie.Need-enter-requires Inv-loop μ-loop
 enter-requires c κs =
     let a = c .before in
-    let e : Entry = a .before .before .before in (
+    let e : Entry = deep a .before in (
       record { scanned = start e .pre .counts .scanned; below = below e; filled = row-filled (e .before .loop .inv) (e .loop-test .taken) },
       row-up _ _ _ _ (e .before .loop .inv .inRows) (a .row-above .ensures),
     )
@@ -71,8 +79,8 @@ enter-requires c κs =
 returns : tie.Need-returns Inv-loop μ-loop
 returns c =
     let n = c .before in
-    let a = n .before .before in
-    let w = a .before .before in
+    let a = above n in
+    let w = deep a in
     let e : Entry = w .before in
     fails _ _ _ _
     (stops (e .before .loop .inv) (e .loop-test .taken) (small e)
@@ -80,26 +88,26 @@ returns c =
     (forest-judged _ _ _ _ (replicate mostRows 0) (start e .pre) (omega (arith, length-replicate {A = ℕ} mostRows 0)))
 
 mul-above : tie.Need-mul-above Inv-loop μ-loop
-mul-above c = omega (arith, shallow (c .before .before .before .before .before))
+mul-above c = omega (arith, shallow (deep (above (c .before))))
 
 array-write-above : tie.Need-array-write-above Inv-loop μ-loop
-array-write-above c = shallow (c .before .before .before .before .before)
+array-write-above c = shallow (deep (above (c .before)))
 
 word-requires-2 : tie.Need-word-requires-2 Inv-loop μ-loop
-word-requires-2 c κs = (omega arith, inside (c .before .before .before .before .before .before))
+word-requires-2 c κs = (omega arith, inside (deep (above (c .before)) .before))
 
 sub-left : tie.Need-sub-left Inv-loop μ-loop
-sub-left c = let e : Entry = c .before .before .before .before .before .before .before in omega (arith, e .loop-test .taken)
+sub-left c = omega (arith, deep (above (c .before .before)) .before .loop-test .taken)
 
 loop-less : tie.Need-loop-less Inv-loop μ-loop
-loop-less c = let e : Entry = c .before .before .before .before .before .before .before in omega (arith, e .loop-test .taken)
+loop-less c = omega (arith, deep (above (c .before .before)) .before .loop-test .taken)
 
 loop-again : tie.Need-loop-again Inv-loop μ-loop
 loop-again c =
     let i = c .before in
     let n = i .before in
-    let a = n .before .before in
-    let w = a .before .before in
+    let a = above n in
+    let w = deep a in
     let e : Entry = w .before in
     rw (c .word2 .ensures, w .word .ensures)
     (goes-on (e .before .loop .inv) (e .loop-test .taken) _ (small e)

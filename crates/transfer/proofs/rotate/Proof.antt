@@ -6,6 +6,10 @@ use Rattle.transfer.proofs.Rotates.{can-turn, rotate-lost, rotate-stops
 use Rattle.transfer.proofs.rotate.Statement.{statement}
 use Rattle.transfer.proofs.rotate.Tie as tie
 
+-- where the function begins, from where the rows are looked for
+abbrev start : tie.After-three-rows → tie.Start
+start l = l .before .before .before
+
 three-rows-requires : tie.Need-three-rows-requires
 three-rows-requires c κs = (ready _ (c .before .before .pre .0), (c .before .before .pre .1 .0, (c .before .before .pre .1 .1 .0, c .before .before .pre .1 .1 .1)))
 
@@ -26,31 +30,41 @@ enum-known-turning-2 c = search needs
 
 turned-requires : tie.Need-turned-requires
 turned-requires c κs =
-    let rows = c .before .before .before .before .before .before .before .before in
-    can-turn _ (rows .before .before .before .before .before .pre .0) _ _ ((rw (rows .located2 .given .1) at (rows .before .before .three-rows .ensures)) .inside _ refl) ((rw (c .before .before .before .turning2 .given .1) at (c .before .before .before .before .before .turn-at .ensures)) .goes _ refl)
+    let turn = c .before .before .before in
+    let tested = turn .before .before in
+    let rows = tested .before .before .before in
+    let looked = rows .before .before in
+    can-turn _ (start looked .pre .0) _ _ ((rw (rows .located2 .given .1) at (looked .three-rows .ensures)) .inside _ refl) ((rw (turn .turning2 .given .1) at (tested .turn-at .ensures)) .goes _ refl)
 
 same-length : tie.Need-same-length
 same-length c = search needs
 
 returns : tie.Need-returns
-returns c = rotate-lost _ (c .before .before .before .before .before .before .pre .0) _ _ _ _ _ _ ((rw (c .before .located .given .1) at (c .before .before .before .three-rows .ensures)) .is)
+returns c =
+    let looked = c .before .before .before in
+    rotate-lost _ (start looked .pre .0) _ _ _ _ _ _ ((rw (c .before .located .given .1) at (looked .three-rows .ensures)) .is)
 
 same-length-2 : tie.Need-same-length-2
 same-length-2 c = search needs
 
 returns-2 : tie.Need-returns-2
 returns-2 c =
-    let rows = c .before .before .before .before .before .before in
-    rotate-stops _ (rows .before .before .before .before .before .pre .0) _ _ _ _ _ _ ((rw (rows .located2 .given .1) at (rows .before .before .three-rows .ensures)) .is) _ ((rw (c .before .turning .given .1) at (c .before .before .before .turn-at .ensures)) .is)
+    let tested = c .before .before .before in
+    let rows = tested .before .before .before in
+    let looked = rows .before .before in
+    rotate-stops _ (start looked .pre .0) _ _ _ _ _ _ ((rw (rows .located2 .given .1) at (looked .three-rows .ensures)) .is) _ ((rw (c .before .turning .given .1) at (tested .turn-at .ensures)) .is)
 
 same-length-3 : tie.Need-same-length-3
 same-length-3 c = search needs
 
 returns-3 : tie.Need-returns-3
 returns-3 c =
-    let turn = c .before .before .before .before .before .before in
-    let rows = turn .before .before .before .before .before in
-    rotate-goes _ (rows .before .before .before .before .before .pre .0) _ _ _ _ _ _ ((rw (rows .located2 .given .1) at (rows .before .before .three-rows .ensures)) .is) _ ((rw (turn .turning2 .given .1) at (turn .before .before .turn-at .ensures)) .is) _ (c .before .before .turned .ensures)
+    let turned = c .before .before in
+    let turn = turned .before .before .before .before in
+    let tested = turn .before .before in
+    let rows = tested .before .before .before in
+    let looked = rows .before .before in
+    rotate-goes _ (start looked .pre .0) _ _ _ _ _ _ ((rw (rows .located2 .given .1) at (looked .three-rows .ensures)) .is) _ ((rw (turn .turning2 .given .1) at (tested .turn-at .ensures)) .is) _ (turned .turned .ensures)
 
 pub rotate-spec : {M : Type 1} → statement M
 rotate-spec =

@@ -17,8 +17,13 @@ cap-words t row kind address size third fourth a b c d e =
     let first : kind ≡ getD t (row * 8 + 0) 0 = a ∙ ap (λ (i : ℕ). getD t i 0) (omega arith) in
     λ i. record { kind = first i; address = record { 0 = b i }; size = c i; third = d i; fourth = e i }
 
+-- ---- back from the last word: the kind, the first word read; and the start
+
+abbrev kind : tie.After-word-at5 → tie.After-word-at
+kind c = c .before .before .before .before
+
 abbrev start : tie.After-word-at5 → tie.Start
-start c = c .before .before .before .before .before .before
+start c = kind c .before .before
 
 mul-at : tie.Need-mul-at
 mul-at c = search needs
@@ -52,7 +57,7 @@ word-at-requires-5 c κs = search needs
 
 returns : tie.Need-returns
 returns c =
-    cap-words (start c .args .table .now) (start c .args .row) _ _ _ _ _ (c .before .before .before .before .word-at .ensures) (c .before .before .before .word-at2 .ensures) (c .before .before .word-at3 .ensures)
+    cap-words (start c .args .table .now) (start c .args .row) _ _ _ _ _ (kind c .word-at .ensures) (c .before .before .before .word-at2 .ensures) (c .before .before .word-at3 .ensures)
     (c .before .word-at4 .ensures) (c .word-at5 .ensures)
 
 pub cap-or-nothing-spec : {M : Type 1} → statement M

@@ -82,7 +82,11 @@ enum-told-8 : tie.Need-enum-told-8
 enum-told-8 c = search needs
 
 retyping-requires : tie.Need-retyping-requires
-retyping-requires c κs = (start (c .before .before .before .before) .pre .0, subst (λ (o : Operation). invokes (capOf (start (c .before .before .before .before) .args .table .now) (start (c .before .before .before .before) .args .service .0)) o ≡ true) (chosen (c .before .before .before .before) Retype (c .before .before .enum-told8 .given .1)) (start (c .before .before .before .before) .pre .1))
+retyping-requires c κs =
+    let told = c .before .before in
+    let asked = told .before .before in
+    let s = start asked in
+    (s .pre .0, subst (λ (o : Operation). invokes (capOf (s .args .table .now) (s .args .service .0)) o ≡ true) (chosen asked Retype (told .enum-told8 .given .1)) (s .pre .1))
 
 enum-told-9 : tie.Need-enum-told-9
 enum-told-9 c = search needs
@@ -91,49 +95,76 @@ same-length : tie.Need-same-length
 same-length c = search needs
 
 returns : tie.Need-returns
-returns c = c .before .before .copying .ensures ∙ copy-chosen _ _ _ _ _ (chosen (c .before .before .before .before .before .before .before .before) Copy (c .before .before .before .before .before .before .enum-told .given .1)) (c .before .before .before .before .before .word-at2 .ensures)
+returns c =
+    let done = c .before .before in
+    let read = done .before .before .before in
+    let told = read .before in
+    done .copying .ensures ∙ copy-chosen _ _ _ _ _ (chosen (told .before .before) Copy (told .enum-told .given .1)) (read .word-at2 .ensures)
 
 same-length-2 : tie.Need-same-length-2
 same-length-2 c = search needs
 
 returns-2 : tie.Need-returns-2
-returns-2 c = c .before .before .copying2 .ensures ∙ mint-chosen _ _ _ _ _ _ (chosen (c .before .before .before .before .before .before .before .before .before) Mint (c .before .before .before .before .before .before .before .enum-told2 .given .1)) (c .before .before .before .before .before .before .word-at3 .ensures) (c .before .before .before .before .before .word-at4 .ensures)
+returns-2 c =
+    let done = c .before .before in
+    let read = done .before .before .before in
+    let told = read .before .before in
+    done .copying2 .ensures ∙ mint-chosen _ _ _ _ _ _ (chosen (told .before .before) Mint (told .enum-told2 .given .1)) (read .before .word-at3 .ensures) (read .word-at4 .ensures)
 
 same-length-3 : tie.Need-same-length-3
 same-length-3 c = search needs
 
 returns-3 : tie.Need-returns-3
-returns-3 c = c .before .before .moving .ensures ∙ move-chosen _ _ _ _ (chosen (c .before .before .before .before .before .before .before) Move (c .before .before .before .before .before .enum-told3 .given .1))
+returns-3 c =
+    let done = c .before .before in
+    let told = done .before .before .before in
+    done .moving .ensures ∙ move-chosen _ _ _ _ (chosen (told .before .before) Move (told .enum-told3 .given .1))
 
 same-length-4 : tie.Need-same-length-4
 same-length-4 c = search needs
 
 returns-4 : tie.Need-returns-4
-returns-4 c = c .before .before .moving2 .ensures ∙ mutate-chosen _ _ _ _ _ (chosen (c .before .before .before .before .before .before .before .before) Mutate (c .before .before .before .before .before .before .enum-told4 .given .1)) (c .before .before .before .before .before .word-at5 .ensures)
+returns-4 c =
+    let done = c .before .before in
+    let read = done .before .before .before in
+    let told = read .before in
+    done .moving2 .ensures ∙ mutate-chosen _ _ _ _ _ (chosen (told .before .before) Mutate (told .enum-told4 .given .1)) (read .word-at5 .ensures)
 
 same-length-5 : tie.Need-same-length-5
 same-length-5 c = search needs
 
 returns-5 : tie.Need-returns-5
-returns-5 c = c .before .before .deleting .ensures ∙ delete-chosen _ _ _ _ (chosen (c .before .before .before .before .before .before .before) Delete (c .before .before .before .before .before .enum-told5 .given .1))
+returns-5 c =
+    let done = c .before .before in
+    let told = done .before .before .before in
+    done .deleting .ensures ∙ delete-chosen _ _ _ _ (chosen (told .before .before) Delete (told .enum-told5 .given .1))
 
 same-length-6 : tie.Need-same-length-6
 same-length-6 c = search needs
 
 returns-6 : tie.Need-returns-6
-returns-6 c = c .before .before .revoking .ensures ∙ revoke-chosen _ _ _ _ (chosen (c .before .before .before .before .before .before .before) Revoke (c .before .before .before .before .before .enum-told6 .given .1))
+returns-6 c =
+    let done = c .before .before in
+    let told = done .before .before .before in
+    done .revoking .ensures ∙ revoke-chosen _ _ _ _ (chosen (told .before .before) Revoke (told .enum-told6 .given .1))
 
 same-length-7 : tie.Need-same-length-7
 same-length-7 c = search needs
 
 returns-7 : tie.Need-returns-7
-returns-7 c = c .before .before .rotating .ensures ∙ same-chosen _ _ _ _ Rotate (chosen (c .before .before .before .before .before .before .before) Rotate (c .before .before .before .before .before .enum-told7 .given .1))
+returns-7 c =
+    let done = c .before .before in
+    let told = done .before .before .before in
+    done .rotating .ensures ∙ same-chosen _ _ _ _ Rotate (chosen (told .before .before) Rotate (told .enum-told7 .given .1))
 
 same-length-8 : tie.Need-same-length-8
 same-length-8 c = search needs
 
 returns-8 : tie.Need-returns-8
-returns-8 c = c .before .before .retyping .ensures ∙ same-chosen _ _ _ _ Retype (chosen (c .before .before .before .before .before .before .before) Retype (c .before .before .before .before .before .enum-told8 .given .1))
+returns-8 c =
+    let done = c .before .before in
+    let told = done .before .before .before in
+    done .retyping .ensures ∙ same-chosen _ _ _ _ Retype (chosen (told .before .before) Retype (told .enum-told8 .given .1))
 
 returns-9 : tie.Need-returns-9
 returns-9 c = unknown-chosen _ _ _ _ (chosen (c .before .before) Unknown (c .enum-told9 .given .1))

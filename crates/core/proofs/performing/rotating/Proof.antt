@@ -7,12 +7,13 @@ use borrow.Author.Needs.{needs}
 use Rattle.core.proofs.performing.rotating.Statement.{statement}
 use Rattle.core.proofs.performing.rotating.Tie as tie
 
--- where the root was found, the lookup before it, and the entry
-abbrev named : tie.After-known-told2 → tie.After-row-named
-named c = c .before .before .before
+-- ---- the start, from the lookup of the root; that lookup, from where the root is found
 
-abbrev start : tie.After-known-told2 → tie.Start
-start c = named c .before .before .before .before
+abbrev start : tie.After-row-named → tie.Start
+start n = n .before .before .before .before
+
+abbrev named : tie.After-known-told2 → tie.After-row-named
+named r = r .before .before .before
 
 row-named-requires : tie.Need-row-named-requires
 row-named-requires c κs = ready _ (c .before .before .before .pre .formed)
@@ -24,21 +25,26 @@ enum-known-found-2 : tie.Need-enum-known-found-2
 enum-known-found-2 c = search needs
 
 rotating-from-requires : tie.Need-rotating-from-requires
-rotating-from-requires c κs = (start (c .before .before) .pre, named (c .before .before) .row-named .ensures .inside _ (c .before .before .before .found2 .given .1))
+rotating-from-requires c κs =
+    let r = c .before .before in
+    (start (named r) .pre, named r .row-named .ensures .inside _ (r .before .found2 .given .1))
 
 same-length : tie.Need-same-length
 same-length c = search needs
 
 returns : tie.Need-returns
-returns c = pivot-refused _ (c .before .before .before .before .before .before .before .pre .formed) _ _ _ _ (sym (c .before .before .before .row-named .ensures .is) ∙ ap ofFound (c .before .found .given .1))
+returns c =
+    let n = c .before .before .before in
+    pivot-refused _ (start n .pre .formed) _ _ _ _ (sym (n .row-named .ensures .is) ∙ ap ofFound (c .before .found .given .1))
 
 same-length-2 : tie.Need-same-length-2
 same-length-2 c = search needs
 
 returns-2 : tie.Need-returns-2
 returns-2 c =
-    let b = c .before .before .before .before .before in
-    c .before .before .rotating-from .ensures ∙ pivot-found _ (start b .pre .formed) _ _ _ _ (sym (named b .row-named .ensures .is) ∙ ap ofFound (b .before .found2 .given .1))
+    let r = c .before .before .before .before .before in
+    let n = named r in
+    c .before .before .rotating-from .ensures ∙ pivot-found _ (start n .pre .formed) _ _ _ _ (sym (n .row-named .ensures .is) ∙ ap ofFound (r .before .found2 .given .1))
 
 pub rotating-spec : {M : Type 1} → statement M
 rotating-spec =

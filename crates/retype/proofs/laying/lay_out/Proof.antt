@@ -8,6 +8,31 @@ use borrow.Author.Needs.{needs}
 use Rattle.retype.proofs.laying.lay_out.Statement.{statement}
 use Rattle.retype.proofs.laying.lay_out.Tie as tie
 
+-- ---- back from the end: the new rows linked, the watermark stored, the size of an object known
+
+abbrev linked : tie.After-struct-known2 → tie.After-link-new
+linked c = c .before .before .before .before
+
+abbrev marked : tie.After-struct-known2 → tie.After-put
+marked c = linked c .before .before .before .before
+
+abbrev sized : tie.After-struct-known2 → tie.After-exponent
+sized c = marked c .before .before .before
+
+-- ---- back from the size: the three words read; and the start
+
+abbrev depth : tie.After-exponent → tie.After-word3
+depth k = k .before
+
+abbrev next : tie.After-exponent → tie.After-word2
+next k = depth k .before .before
+
+abbrev base : tie.After-exponent → tie.After-word
+base k = next k .before .before
+
+abbrev start : tie.After-exponent → tie.Start
+start k = base k .before .before .before
+
 word-requires : tie.Need-word-requires
 word-requires c κs = search needs
 
@@ -27,7 +52,7 @@ exponent-requires : tie.Need-exponent-requires
 exponent-requires c κs = search needs
 
 small : (k : tie.After-exponent) → k .exponent .result ≤ 34
-small k = rw (k .exponent .ensures) (exponent-small _ _ (k .before .before .before .before .before .before .before .before .pre .room .known))
+small k = rw (k .exponent .ensures) (exponent-small _ _ (start k .pre .room .known))
 
 cast-e : tie.Need-cast-e
 cast-e c = omega (arith, small c)
@@ -43,13 +68,13 @@ shl-end c = omega (arith, small (c .before))
 
 add-end : tie.Need-add-end
 add-end c =
-    let start = c .before .before .before .before .before .before .before .before .before in
-    rw (shifted _ _ _ _ _ (start .pre) _ (c .before .exponent .ensures)) (omega (arith, start .pre .end))
+    let k = c .before in
+    rw (shifted _ _ _ _ _ (start k .pre) _ (k .exponent .ensures)) (omega (arith, start k .pre .end))
 
 cast-put : tie.Need-cast-put
 cast-put c =
-    let start = c .before .before .before .before .before .before .before .before .before .before in
-    rw (shifted _ _ _ _ _ (start .pre) _ (c .before .before .exponent .ensures)) (omega (arith, start .pre .end))
+    let k = c .before .before in
+    rw (shifted _ _ _ _ _ (start k .pre) _ (k .exponent .ensures)) (omega (arith, start k .pre .end))
 
 put-requires : tie.Need-put-requires
 put-requires c κs = search needs
@@ -61,9 +86,7 @@ element-copy-out-control : tie.Need-element-copy-out-control
 element-copy-out-control c = search needs
 
 add-control : tie.Need-add-control
-add-control c =
-    let start = c .before .before .before .before .before .before .before .before .before .before .before .before .before .before .before .before .before .before .before in
-    omega (arith, start .pre .count, start .pre .room .few)
+add-control c = let s = start (sized c) in omega (arith, s .pre .count, s .pre .room .few)
 
 element-write-control : tie.Need-element-write-control
 element-write-control c = search needs
@@ -73,11 +96,9 @@ same-length c = search needs
 
 returns : tie.Need-returns
 returns c =
-    let sized = c .before .before .before .before .before .before .before .before .before .before .before in
-    let words = sized .before in
-    let start = words .before .before .before .before .before .before .before in
-    laid _ _ _ _ _ _ _ _ _ _ _ (words .before .before .before .before .word .ensures) (words .before .before .word2 .ensures) (words .word3 .ensures)
-    (shifted _ _ _ _ _ (start .pre) _ (sized .exponent .ensures)) (c .before .before .before .before .before .before .before .before .put .ensures) (c .before .before .before .before .link-new .ensures)
+    let k = sized c in
+    laid _ _ _ _ _ _ _ _ _ _ _ (base k .word .ensures) (next k .word2 .ensures) (depth k .word3 .ensures)
+    (shifted _ _ _ _ _ (start k .pre) _ (k .exponent .ensures)) (marked c .put .ensures) (linked c .link-new .ensures)
 
 pub lay-out-spec : {M : Type 1} → statement M
 lay-out-spec =

@@ -16,6 +16,17 @@ Inv-loop t₀ next depth q unit last₀ k₀ at₀ left₀ t last k at left = La
 abbrev μ-loop : tie.MeasureT-loop
 μ-loop t₀ next depth q unit last₀ k₀ at₀ left₀ t last k at left = left
 
+-- ---- the start, from where the size of an object is known; that size, from inside the loop; the loop's body, from its end
+
+abbrev start : tie.After-pow2 Inv-loop μ-loop → tie.Start Inv-loop μ-loop
+start u = u .before .before .before
+
+abbrev size : tie.In-loop Inv-loop μ-loop → tie.After-pow2 Inv-loop μ-loop
+size k = k .before .before .before
+
+abbrev body : tie.After-slice-known2 Inv-loop μ-loop → tie.In-loop Inv-loop μ-loop
+body c = c .before .before .before .before .before
+
 exponent-requires : tie.Need-exponent-requires Inv-loop μ-loop
 exponent-requires c κs = tt
 
@@ -29,32 +40,33 @@ cast-at : tie.Need-cast-at Inv-loop μ-loop
 cast-at c = search needs
 
 loop-holds : tie.Need-loop-holds Inv-loop μ-loop
-loop-holds c = laying-first _ _ _ _ _ _ _ _ (c .before .pow2 .ensures ∙ ap (λ (e : ℕ). 2 ^ e) (c .before .before .exponent .ensures)) (c .before .before .before .before .pre)
+loop-holds c =
+    let u = c .before in
+    laying-first _ _ _ _ _ _ _ _ (u .pow2 .ensures ∙ ap (λ (e : ℕ). 2 ^ e) (u .before .exponent .ensures)) (start u .pre)
 
-ends : (k : tie.In-loop Inv-loop μ-loop) → k .before .loop .at + k .before .before .before .pow2 .result ≤ 4294967296
+ends : (k : tie.In-loop Inv-loop μ-loop) → k .before .loop .at + size k .pow2 .result ≤ 4294967296
 ends k = laying-named _ _ _ _ _ _ _ _ _ _ _ _ _ _ (k .loop-test .taken) (k .before .loop .inv)
 
 ends-above : (at u e : ℕ) → u ≡ 2 ^ e → at + u ≤ 4294967296 → at < 4294967296
 ends-above at u e p h = let positive : 0 < 2 ^ e = pow-pos e in omega arith
 
 cast-byte : tie.Need-cast-byte Inv-loop μ-loop
-cast-byte c = record { fits = ends-above _ _ _ (c .before .before .before .pow2 .ensures) (ends c) }
+cast-byte c = record { fits = ends-above _ _ _ (size c .pow2 .ensures) (ends c) }
 
 new-cap-requires : tie.Need-new-cap-requires Inv-loop μ-loop
-new-cap-requires c κs = c .before .before .before .before .before .before .pre .known
+new-cap-requires c κs = start (size c) .pre .known
 
 link-requires : tie.Need-link-requires Inv-loop μ-loop
 link-requires c κs =
-    let l = c .before .before .before .loop .inv in
-    let room = c .before .before .before .before .before .before .before .before .pre in
-    (omega (arith, l .kept, l .long), omega (arith, l .rows, l .long, room .rows))
+    let k = c .before .before in
+    let l = k .before .loop .inv in
+    (omega (arith, l .kept, l .long), omega (arith, l .rows, l .long, start (size k) .pre .rows))
 
 add-k : tie.Need-add-k Inv-loop μ-loop
-add-k c =
-    omega (arith, c .before .before .before .before .before .before .loop .inv .rows, c .before .before .before .before .before .before .before .before .before .before .before .pre .few)
+add-k c = omega (arith, body c .before .loop .inv .rows, start (size (body c)) .pre .few)
 
 add-at : tie.Need-add-at Inv-loop μ-loop
-add-at c = omega (arith, ends (c .before .before .before .before .before))
+add-at c = omega (arith, ends (body c))
 
 sub-left : tie.Need-sub-left Inv-loop μ-loop
 sub-left c = omega arith
@@ -64,9 +76,9 @@ loop-less c = omega arith
 
 loop-again : tie.Need-loop-again Inv-loop μ-loop
 loop-again c =
-    let k = c .before .before .before .before .before in
-    let at-start = k .before .before .before in
-    laying-next _ _ _ _ _ _ _ _ _ _ _ _ _ _ _ _ (at-start .pow2 .ensures ∙ ap (λ (e : ℕ). 2 ^ e) (at-start .before .exponent .ensures)) (at-start .before .before .before .pre .rows)
+    let k = body c in
+    let u = size k in
+    laying-next _ _ _ _ _ _ _ _ _ _ _ _ _ _ _ _ (u .pow2 .ensures ∙ ap (λ (e : ℕ). 2 ^ e) (u .before .exponent .ensures)) (start u .pre .rows)
     (k .loop-test .taken) (c .before .before .before .before .new-cap .ensures) (c .before .before .link .ensures) (k .before .loop .inv)
 
 same-length : tie.Need-same-length Inv-loop μ-loop

@@ -11,6 +11,14 @@ use Rattle.retype.proofs.Slots.{first-barred, first-no-node, first-in}
 use Rattle.retype.proofs.place.first_slot.Statement.{statement}
 use Rattle.retype.proofs.place.first_slot.Tie as tie
 
+-- ---- the test of type and size, from where the node is looked for; and the start
+
+abbrev tested : tie.After-node → tie.After-sized
+tested n = n .before .before .before .before
+
+abbrev start : tie.After-node → tie.Start
+start n = tested n .before .before
+
 sized-requires : tie.Need-sized-requires
 sized-requires c κs = search needs
 
@@ -33,23 +41,24 @@ enum-known-taker-2 : tie.Need-enum-known-taker-2
 enum-known-taker-2 c = search needs
 
 -- the type and the size have passed
-judged : (k : tie.After-node) → passed tt ≡ sized edition32 (k .before .before .before .before .before .before .args .q .object) (k .before .before .before .before .before .before .args .q .size)
-judged k = ap ofJudged (sym (k .before .before .enum-told .given .1)) ∙ k .before .before .before .before .sized .ensures
+judged : (k : tie.After-node) → passed tt ≡ sized edition32 (start k .args .q .object) (start k .args .q .size)
+judged k = ap ofJudged (sym (k .before .before .enum-told .given .1)) ∙ tested k .sized .ensures
 
 vacant-window-requires : tie.Need-vacant-window-requires
-vacant-window-requires c κs = (
-  c .before .before .before .before .before .before .before .before .before .pre .0,
-  node-usable _ _ _ (c .before .before .before .before .before .before .before .before .before .pre .0) (c .before .before .before .before .before .before .before .before .before .pre .1)
-      (ap ofTaker (sym (c .before .taker2 .given .1)) ∙ c .before .before .before .node .ensures),
-)
+vacant-window-requires c κs =
+    let n = c .before .before .before in
+    let s = start n in
+    (s .pre .0, node-usable _ _ _ (s .pre .0) (s .pre .1) (ap ofTaker (sym (c .before .taker2 .given .1)) ∙ n .node .ensures))
 
 returns-2 : tie.Need-returns-2
-returns-2 c = first-no-node _ _ _ (judged (c .before .before .before)) _ (ap ofTaker (sym (c .before .taker .given .1)) ∙ c .before .before .before .node .ensures)
+returns-2 c =
+    let n = c .before .before .before in
+    first-no-node _ _ _ (judged n) _ (ap ofTaker (sym (c .before .taker .given .1)) ∙ n .node .ensures)
 
 returns-3 : tie.Need-returns-3
 returns-3 c =
-    c .vacant-window .ensures
-    ∙ first-in _ _ _ (judged (c .before .before .before .before)) _ (ap ofTaker (sym (c .before .before .taker2 .given .1)) ∙ c .before .before .before .before .node .ensures)
+    let n = c .before .before .before .before in
+    c .vacant-window .ensures ∙ first-in _ _ _ (judged n) _ (ap ofTaker (sym (c .before .before .taker2 .given .1)) ∙ n .node .ensures)
 
 pub first-slot-spec : {M : Type 1} → statement M
 first-slot-spec =

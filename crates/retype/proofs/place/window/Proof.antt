@@ -37,14 +37,22 @@ returns-2 c = offset-beyond _ _ _ (c .before .before .slots-of .ensures) (c .bef
 
 returns-3 : tie.Need-returns-3
 returns-3 c =
-    window-out _ _ _ (c .before .before .before .before .slots-of .ensures) (c .before .before .before .before .before .if1 .left) (c .before .before .if2 .left)
+    let within = c .before .before in
+    window-out _ _ _ (within .before .before .slots-of .ensures) (within .before .before .before .if1 .left) (within .if2 .left)
     (⊎-elim (λ w. rw (eq-eqb _ _ (w .taken))) (λ w. rw (ne-eqb _ _ (w .0 .left), w .2 .taken)) (c .if3 .came))
 
--- what is known once the window is known to be 1 to 256
-abbrev counted : tie.Else4 → tie.After-slots-of
-counted k = k .before .before .before .before .before .before
+-- ---- what is known once the window is known to be 1 to 256: the offset is there, the slots are counted; and the start
 
-fair : (k : tie.Else4) → (eqb (counted k .before .before .before .args .q .window) 0 || ltb 256 (counted k .before .before .before .args .q .window)) ≡ false
+abbrev there : tie.Else4 → tie.Else2
+there k = k .before .before .before .before
+
+abbrev counted : tie.Else4 → tie.After-slots-of
+counted k = there k .before .before
+
+abbrev start : tie.Else4 → tie.Start
+start k = counted k .before .before .before
+
+fair : (k : tie.Else4) → (eqb (start k .args .q .window) 0 || ltb 256 (start k .args .q .window)) ≡ false
 fair k = rw (ne-eqb _ _ (k .before .before .if3 .left), k .if4 .left)
 
 sub-room : tie.Need-sub-room
@@ -53,7 +61,7 @@ sub-room c = search needs
 returns-4 : tie.Need-returns-4
 returns-4 c =
     let k : tie.Else4 = c .before .before .before in
-    window-wide _ _ _ (counted k .slots-of .ensures) (counted k .before .if1 .left) (k .before .before .before .before .if2 .left) (fair k) (c .if5 .taken)
+    window-wide _ _ _ (counted k .slots-of .ensures) (counted k .before .if1 .left) (there k .if2 .left) (fair k) (c .if5 .taken)
 
 row-of-requires : tie.Need-row-of-requires
 row-of-requires c κs = search needs
@@ -61,13 +69,15 @@ row-of-requires c κs = search needs
 add-row : tie.Need-add-row
 unfolding firstRow
 add-row c =
-    let k : tie.Else4 = c .before .before .before .before .before .before in
-    omega (arith, c .before .before .row-of .ensures, counted k .slots-of .ensures, k .before .before .before .before .if2 .left, counted k .before .before .before .pre (node-kind _ (counted k .before .if1 .left)))
+    let fits = c .before .before .before in
+    let k : tie.Else4 = fits .before .before .before in
+    omega (arith, c .before .before .row-of .ensures, counted k .slots-of .ensures, there k .if2 .left, start k .pre (node-kind _ (counted k .before .if1 .left)))
 
 returns-5 : tie.Need-returns-5
 returns-5 c =
-    let k : tie.Else4 = c .before .before .before .before .before .before in
-    window-fits _ _ _ (counted k .slots-of .ensures) (counted k .before .if1 .left) (k .before .before .before .before .if2 .left) (fair k) (c .before .before .before .if5 .left) _ (c .before .before .row-of .ensures)
+    let fits = c .before .before .before in
+    let k : tie.Else4 = fits .before .before .before in
+    window-fits _ _ _ (counted k .slots-of .ensures) (counted k .before .if1 .left) (there k .if2 .left) (fair k) (fits .if5 .left) _ (c .before .before .row-of .ensures)
 
 pub window-spec : {M : Type 1} → statement M
 window-spec =
