@@ -6,7 +6,7 @@ use borrow.Author.Needs.{needs}
 use borrow.Author.Tests.{not-true, not-false}
 use lib.ListN.{length, replicate, length-replicate}
 use Rattle.model.specs.Edition.{edition32, mostRows}
-use Rattle.model.specs.Tables.{rows, word, follow}
+use Rattle.model.specs.Tables.{rows, follow}
 use Rattle.model.proofs.Words.Bounds.{rows-most}
 use Rattle.rules.specs.Owners.{walk}
 use Rattle.rules.proofs.Law.{forest-judged}
