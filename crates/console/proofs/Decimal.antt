@@ -68,7 +68,7 @@ all-end [] b p q = rw q
 all-end (a ∷ bs) b p q = and-intro {b = isDigit a} (and-left (isDigit a) (allDigits bs) p) (all-end bs b (and-right (isDigit a) (allDigits bs) p) q)
 
 -- the last digit of a number, printed
-glyph-is : (n : ℕ) → glyph (n % 10) ≡ 48 + n % 10
+pub glyph-is : (n : ℕ) → glyph (n % 10) ≡ 48 + n % 10
 glyph-is n = rw (lt-ltb (n % 10) 10 (mod-lt n (omega arith)))
 
 glyph-digit : (n : ℕ) → isDigit (glyph (n % 10)) ≡ true
