@@ -63,6 +63,8 @@ module _ {out : List ℕ} {pen pen′ : Pen} where
 
 -- ---- what is written
 
+infixl 20 _then_
+
 module _ {out out′ : List ℕ} {pen pen′ : Pen} where
   -- nothing is written
   pub nothing : out′ ≡ out → pen′ ≡ pen → Writes out pen [] out′ pen′
@@ -77,8 +79,8 @@ module _ {out out′ : List ℕ} {pen pen′ : Pen} where
   alike e w = rw e at w
 
   -- a text and then another
-  pub andThen : {out″ : List ℕ} {pen″ : Pen} {s t : List ℕ} → Writes out pen s out′ pen′ → Writes out′ pen′ t out″ pen″ → Writes out pen (s ++ t) out″ pen″
-  andThen {s = s} {t = t} v w =
+  pub _then_ : {out″ : List ℕ} {pen″ : Pen} {s t : List ℕ} → Writes out pen s out′ pen′ → Writes out′ pen′ t out″ pen″ → Writes out pen (s ++ t) out″ pen″
+  _then_ {s = s} {t = t} v w =
       record {
         page = w .page ∙ ap (λ (p : Page). wrote p t) (v .page) ∙ sym (wrote-append (under pen out) s t);
         lost = λ l. w .lost (v .lost l);

@@ -5,7 +5,7 @@ use native.Mathlib.Omega.{arith}
 use lib.ListN.{length, take}
 use lib.Seq.{take-all}
 use Rattle.console.specs.Writing.{Writes, decimal, spaced}
-use Rattle.console.proofs.Writing.{nothing, alike, andThen, keeps-length, spaced-more}
+use Rattle.console.proofs.Writing.{nothing, alike, _then_, keeps-length, spaced-more}
 use borrow.Author.Needs.{needs}
 use Rattle.console.proofs.output.put_numbers.Statement.{statement}
 use Rattle.console.proofs.output.put_numbers.Tie as tie
@@ -44,7 +44,7 @@ loop-again : tie.Need-loop-again Inv-loop μ-loop
 loop-again c = (
   omega arith,
   keeps-length (c .before .before .put-number .ensures) ∙ keeps-length (c .before .before .before .before .before .before .before .before .put-byte .ensures) ∙ c .before .before .before .before .before .before .before .before .before .before .before .loop .inv .1,
-  alike (spaced-more _ _ (c .before .before .before .before .before .before .before .before .before .before .loop-test .taken)) (andThen (c .before .before .before .before .before .before .before .before .before .before .before .loop .inv .2) (andThen (c .before .before .before .before .before .before .before .before .put-byte .ensures) (alike (ap decimal (c .before .before .before .wide .ensures)) (c .before .before .put-number .ensures)))),
+  alike (spaced-more _ _ (c .before .before .before .before .before .before .before .before .before .before .loop-test .taken)) (c .before .before .before .before .before .before .before .before .before .before .before .loop .inv .2 then (c .before .before .before .before .before .before .before .before .put-byte .ensures then alike (ap decimal (c .before .before .before .wide .ensures)) (c .before .before .put-number .ensures))),
 )
 
 same-length : tie.Need-same-length Inv-loop μ-loop

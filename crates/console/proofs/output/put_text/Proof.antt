@@ -5,7 +5,7 @@ use native.Mathlib.Omega.{arith}
 use lib.ListN.{length, take}
 use lib.Seq.{take-all}
 use Rattle.console.specs.Writing.{Writes}
-use Rattle.console.proofs.Writing.{nothing, alike, andThen, keeps-length, take-more}
+use Rattle.console.proofs.Writing.{nothing, alike, _then_, keeps-length, take-more}
 use borrow.Author.Needs.{needs}
 use Rattle.console.proofs.output.put_text.Statement.{statement}
 use Rattle.console.proofs.output.put_text.Tie as tie
@@ -35,7 +35,7 @@ loop-again : tie.Need-loop-again Inv-loop μ-loop
 loop-again c = (
   omega arith,
   keeps-length (c .before .before .put-byte .ensures) ∙ c .before .before .before .before .before .before .loop .inv .1,
-  alike (take-more _ _ (c .before .before .before .before .before .loop-test .taken)) (andThen (c .before .before .before .before .before .before .loop .inv .2) (c .before .before .put-byte .ensures)),
+  alike (take-more _ _ (c .before .before .before .before .before .loop-test .taken)) (c .before .before .before .before .before .before .loop .inv .2 then c .before .before .put-byte .ensures),
 )
 
 same-length : tie.Need-same-length Inv-loop μ-loop
