@@ -1,7 +1,8 @@
-// What a line asks for, and that it is done.
+// What a line asks for is done.
+use crate::asking::Command;
+use crate::asking::command_of;
 use crate::estate::put_estate;
 use crate::line::Line;
-use crate::line::says_nothing;
 use crate::output::Pen;
 use crate::output::put_text;
 use crate::show::put_answer;
@@ -10,91 +11,10 @@ use crate::tree::draw;
 ghost use mathlib.Core.Path.{_≡_};
 ghost use lib.ListN.{length};
 
-// What a line asks for.
-pub enum Command {
-    Nothing,
-    Boot,
-    Size,
-    Control,
-    Row,
-    Ask,
-    Show,
-    Tree,
-    Estate,
-    Bad,
-}
-
 // What is kept from line to line: how many words of the table are lent, and what is to be written.
 pub struct Desk {
     pub lent: usize,
     pub pen: Pen,
-}
-
-// A command by the key of its first word, in hexadecimal 1 and then the word in ASCII, and the count of its numbers.
-fn by_key(key: u64, count: usize) -> Command {
-    match key {
-        // boot
-        0x1626f6f74 => {
-            if count == 2 {
-                return Command::Boot;
-            }
-        }
-        // size
-        0x173697a65 => {
-            if count == 1 {
-                return Command::Size;
-            }
-        }
-        // control
-        0x1636f6e74726f6c => {
-            if count == 4 {
-                return Command::Control;
-            }
-        }
-        // row
-        0x1726f77 => {
-            if count == 9 {
-                return Command::Row;
-            }
-        }
-        // ask
-        0x161736b => {
-            if 1 <= count {
-                return Command::Ask;
-            }
-        }
-        // show
-        0x173686f77 => {
-            if count == 0 {
-                return Command::Show;
-            }
-        }
-        // tree
-        0x174726565 => {
-            if count == 0 {
-                return Command::Tree;
-            }
-        }
-        // estate
-        0x1657374617465 => {
-            if count == 1 {
-                return Command::Estate;
-            }
-        }
-        _ => {}
-    }
-    Command::Bad
-}
-
-// What a whole line asks for.
-fn command_of(line: Line) -> Command {
-    if says_nothing(line) {
-        return Command::Nothing;
-    }
-    if line.bad {
-        return Command::Bad;
-    }
-    by_key(line.key, line.count)
 }
 
 // A line that is refused.
