@@ -11,6 +11,7 @@ use Rattle.model.specs.Tables.{Tables, lent, rows}
 use Rattle.model.specs.Request.{Outcome, boot, request, sixWords}
 use Rattle.console.specs.declared.asking.Command.{Command}
 use Rattle.console.specs.declared.asking.Command.the-variants.{Nothing, Boot, Size, Control, Row, Ask, Show, Tree, Estate, Bad}
+use Rattle.console.specs.declared.command.Desk.{Desk}
 use Rattle.console.specs.declared.output.Pen.{Pen}
 use Rattle.console.specs.Writing.{Writes, ascii}
 use Rattle.console.specs.Show.{answerText, showText}
@@ -59,13 +60,21 @@ within s r = cond (leb (s .count) (length (s .table))) r (says s [])
 abbrev pub wordsFor : (m : ℕ) → ℕ
 wordsFor m = cond (mInRange edition32 m) (8 * rows edition32 m) 0
 
+-- so, if the table has as many
+abbrev pub lendIf : Lending → ℕ → Lending
+lendIf s n = cond (leb n (length (s .table))) (lend s n) s
+
 -- for an m in Boot's range the lent table becomes a zero table of the length that fits
 unfoldable pub fitted : Lending → (m : ℕ) → Lending
-fitted s m = cond (mInRange edition32 m && leb (wordsFor m) (length (s .table))) (lend s (wordsFor m)) s
+fitted s m = cond (mInRange edition32 m) (lendIf s (wordsFor m)) s
+
+-- Boot, on what is lent
+unfoldable pub bootLent : Lending → (m r : ℕ) → Reply
+bootLent s m r = within s (answers s (boot edition32 (tables s) m r))
 
 -- `boot M R`
 unfoldable pub onBoot : Lending → (m r : ℕ) → Reply
-onBoot s m r = within (fitted s m) (answers (fitted s m) (boot edition32 (tables (fitted s m)) m r))
+onBoot s m r = bootLent (fitted s m) m r
 
 -- `size N`
 unfoldable pub onSize : Lending → (n : ℕ) → Reply
@@ -79,12 +88,16 @@ onControl s control = says (lending (s .table) control (s .count)) (ascii "ok\n"
 unfoldable pub onRow : Lending → (k : ℕ) → (words : List ℕ) → Reply
 onRow s k words =
     cond (leb (k * 8 + 8) (s .count) && leb (k * 8 + 8) (length (s .table)))
-    (says (lending (take (k * 8) (s .table) ++ words ++ drop (k * 8 + 8) (s .table)) (s .control) (s .count)) (ascii "ok\n"))
+    (says (lending (take (k * 8) (s .table) ++ (words ++ drop (k * 8 + 8) (s .table))) (s .control) (s .count)) (ascii "ok\n"))
     (says s (ascii "bad\n"))
 
 -- `ask CALLER W0 W1 ..`
 unfoldable pub onAsk : Lending → (caller : ℕ) → (message : List ℕ) → Reply
 onAsk s caller message = within s (answers s (request edition32 (tables s) caller message))
+
+-- the words after the first of a line's numbers, of which there are `count`
+unfoldable pub onAskLine : Lending → (numbers : List ℕ) → (count : ℕ) → Reply
+onAskLine s ns n = cond (leb 1 n && leb n (length ns)) (onAsk s (getD ns 0 0) (take (n - 1) (drop 1 ns))) (says s (ascii "bad\n"))
 
 -- `show`
 unfoldable pub onShow : Lending → Reply
@@ -95,9 +108,9 @@ unfoldable pub reply : Command → Lending → (numbers : List ℕ) → (count :
 reply Nothing s ns n = says s []
 reply Boot s ns n = onBoot s (getD ns 0 0) (getD ns 1 0)
 reply Size s ns n = onSize s (getD ns 0 0)
-reply Control s ns n = onControl s (take 4 ns)
+reply Control s ns n = onControl s (getD ns 0 0 ∷ getD ns 1 0 ∷ getD ns 2 0 ∷ getD ns 3 0 ∷ [])
 reply Row s ns n = onRow s (getD ns 0 0) (take 8 (drop 1 ns))
-reply Ask s ns n = cond (leb 1 n && leb n (length ns)) (onAsk s (getD ns 0 0) (take (n - 1) (drop 1 ns))) (says s (ascii "bad\n"))
+reply Ask s ns n = onAskLine s ns n
 reply Show s ns n = onShow s
 reply Tree s ns n = says s []
 reply Estate s ns n = says s []
@@ -118,11 +131,17 @@ isTold Bad = true
 
 -- ---- promises
 
+-- a text is written, and as much is lent as before
+pub record Says (text : List ℕ) (out : List ℕ) (desk : Desk) (out′ : List ℕ) (desk′ : Desk) : Type 0 where
+  pub lent : desk′ .lent ≡ desk .lent
+  pub said : Writes out (desk .pen) text out′ (desk′ .pen)
+
 -- from what is kept, a buffer and a pen, to what is kept then, a buffer and a pen
 pub record Replies (r : Reply) (out : List ℕ) (pen : Pen) (s′ : Lending) (out′ : List ℕ) (pen′ : Pen) : Type 0 where
   pub after : s′ ≡ r .after
   pub said : Writes out pen (r .text) out′ pen′
 
+-- the same, where what is written is told
 pub record Obeys (told : Bool) (r : Reply) (out : List ℕ) (pen : Pen) (s′ : Lending) (out′ : List ℕ) (pen′ : Pen) : Type 0 where
   pub after : s′ ≡ r .after
   pub said : told ≡ true → Writes out pen (r .text) out′ pen′
