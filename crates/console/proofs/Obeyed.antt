@@ -14,7 +14,7 @@ use borrow.Author.Tests.{le-leb, lt-leb}
 use borrow.Rule.Slice.PartMut.{putMid, post-is}
 use Rattle.model.specs.Edition.{edition32}
 use Rattle.model.specs.Lists.{within as between}
-use Rattle.model.specs.Rules.{mInRange}
+use Rattle.model.specs.Rules.{mInRange, wellFormed}
 use Rattle.model.specs.Tables.{Tables, lent, rows}
 use Rattle.model.specs.Request.{Outcome, sixWords, boot}
 use Rattle.model.specs.declared.Answer.{Answer}
@@ -23,7 +23,8 @@ use Rattle.console.specs.declared.command.Desk.{Desk}
 use Rattle.console.specs.declared.output.Pen.{Pen}
 use Rattle.console.specs.Writing.{Writes, ascii}
 use Rattle.console.specs.Show.{answerText, showText}
-use Rattle.console.specs.Obeying.{Lending, lending, tables, Reply, says, answers, within, lend, lendIf, wordsFor, fitted, bootLent, onBoot, onSize, onControl, onRow, onAsk, onAskLine, onShow, reply, isTold, Says, Replies, Obeys}
+use Rattle.console.specs.Drawn.{treeText}
+use Rattle.console.specs.Obeying.{Lending, lending, tables, Reply, says, answers, within, lend, lendIf, wordsFor, fitted, bootLent, onBoot, onSize, onControl, onRow, onAsk, onAskLine, onShow, onTree, reply, isTold, Says, Replies, Obeys}
 use Rattle.console.proofs.Writing.{nothing}
 
 -- ---- words
@@ -167,14 +168,36 @@ pub control-set : (t c k : List ℕ) (l : ℕ) → says (lending t k l) (ascii "
 unfolding onControl
 control-set t c k l = refl
 
--- nothing else happens
-pub shown : (t c : List ℕ) {out out′ : List ℕ} {desk desk′ : Desk} → Says (onShow (lending t c (desk .lent)) .text) out desk out′ desk′ → Replies (onShow (lending t c (desk .lent))) out (desk .pen) (lending t c (desk′ .lent)) out′ (desk′ .pen)
-unfolding onShow
-shown t c {desk = desk} w = record { after = ap (λ (n : ℕ). lending t c n) (w .lent) ∙ go (leb (desk .lent) (length t)); said = w .said }
-  where
-    go : (ok : Bool) → lending t c (desk .lent) ≡ cond ok (says (lending t c (desk .lent)) (showText (take (desk .lent) t) c)) (says (lending t c (desk .lent)) []) .after
-    go true = refl
-    go false = refl
+-- `tree`
+module _ (t c : List ℕ) (l : ℕ) where
+  abbrev check : Bool
+  check = wellFormed edition32 (lent (take (l - 0) t) c)
+
+  pub tree-drawn : {ok : Bool} → ok ≡ check → ok ≡ true → l ≤ length t → treeText (take (l - 0) t) (getD c 2 0) (getD c 3 0) ≡ onTree (lending t c l) .text
+  unfolding onTree
+  tree-drawn e p h = rw (le-leb _ _ h, sym (rw (sub-zero l) at e), p, sub-zero l)
+
+  pub tree-refused : {ok : Bool} → ok ≡ check → ok ≡ false → l ≤ length t → ascii "bad\n" ≡ onTree (lending t c l) .text
+  unfolding onTree
+  tree-refused e p h = rw (le-leb _ _ h, sym (rw (sub-zero l) at e), p)
+
+  pub tree-beyond : length t < l → [] ≡ onTree (lending t c l) .text
+  unfolding onTree
+  tree-beyond h = rw (lt-leb _ _ h)
+
+-- what only writes leaves all as it is
+same : (s : Lending) (ok : Bool) (text : List ℕ) → s ≡ cond ok (says s text) (says s []) .after
+same s true text = refl
+same s false text = refl
+
+module _ (t c : List ℕ) {out out′ : List ℕ} {desk desk′ : Desk} where
+  pub shown : Says (onShow (lending t c (desk .lent)) .text) out desk out′ desk′ → Replies (onShow (lending t c (desk .lent))) out (desk .pen) (lending t c (desk′ .lent)) out′ (desk′ .pen)
+  unfolding onShow
+  shown w = record { after = ap (λ (n : ℕ). lending t c n) (w .lent) ∙ same (lending t c (desk .lent)) (leb (desk .lent) (length t)) _; said = w .said }
+
+  pub drawn : Says (onTree (lending t c (desk .lent)) .text) out desk out′ desk′ → Replies (onTree (lending t c (desk .lent))) out (desk .pen) (lending t c (desk′ .lent)) out′ (desk′ .pen)
+  unfolding onTree
+  drawn w = record { after = ap (λ (n : ℕ). lending t c n) (w .lent) ∙ same (lending t c (desk .lent)) (leb (desk .lent) (length t)) _; said = w .said }
 
 -- ---- any line
 

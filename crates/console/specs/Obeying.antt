@@ -6,7 +6,7 @@ use mathlib.Core.List.{List, [], _∷_, _++_}
 use lib.Dec.{leb}
 use lib.ListN.{length, take, drop, getD, replicate}
 use Rattle.model.specs.Edition.{edition32}
-use Rattle.model.specs.Rules.{mInRange}
+use Rattle.model.specs.Rules.{mInRange, wellFormed}
 use Rattle.model.specs.Tables.{Tables, lent, rows}
 use Rattle.model.specs.Request.{Outcome, boot, request, sixWords}
 use Rattle.console.specs.declared.asking.Command.{Command}
@@ -15,6 +15,7 @@ use Rattle.console.specs.declared.command.Desk.{Desk}
 use Rattle.console.specs.declared.output.Pen.{Pen}
 use Rattle.console.specs.Writing.{Writes, ascii}
 use Rattle.console.specs.Show.{answerText, showText}
+use Rattle.console.specs.Drawn.{treeText}
 
 -- ---- what is kept from line to line
 
@@ -103,7 +104,11 @@ onAskLine s ns n = cond (leb 1 n && leb n (length ns)) (onAsk s (getD ns 0 0) (t
 unfoldable pub onShow : Lending → Reply
 onShow s = within s (says s (showText (take (s .count) (s .table)) (s .control)))
 
--- a command with the first `count` of a line's 17 numbers; `tree` and `estate` change nothing
+-- `tree`, of tables that are well-formed
+unfoldable pub onTree : Lending → Reply
+onTree s = within s (says s (cond (wellFormed edition32 (tables s)) (treeText (take (s .count) (s .table)) (getD (s .control) 2 0) (getD (s .control) 3 0)) (ascii "bad\n")))
+
+-- a command with the first `count` of a line's 17 numbers; `estate` changes nothing
 unfoldable pub reply : Command → Lending → (numbers : List ℕ) → (count : ℕ) → Reply
 reply Nothing s ns n = says s []
 reply Boot s ns n = onBoot s (getD ns 0 0) (getD ns 1 0)
@@ -112,11 +117,11 @@ reply Control s ns n = onControl s (getD ns 0 0 ∷ getD ns 1 0 ∷ getD ns 2 0 
 reply Row s ns n = onRow s (getD ns 0 0) (take 8 (drop 1 ns))
 reply Ask s ns n = onAskLine s ns n
 reply Show s ns n = onShow s
-reply Tree s ns n = says s []
+reply Tree s ns n = onTree s
 reply Estate s ns n = says s []
 reply Bad s ns n = says s (ascii "bad\n")
 
--- what is written is said above
+-- what is written is said above; what `estate` writes is not
 abbrev pub isTold : Command → Bool
 isTold Nothing = true
 isTold Boot = true
@@ -125,7 +130,7 @@ isTold Control = true
 isTold Row = true
 isTold Ask = true
 isTold Show = true
-isTold Tree = false
+isTold Tree = true
 isTold Estate = false
 isTold Bad = true
 

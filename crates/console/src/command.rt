@@ -13,7 +13,7 @@ ghost use mathlib.Core.Path.{_≡_};
 ghost use mathlib.Core.List.{List};
 ghost use lib.ListN.{drop, length, replicate, take};
 ghost use Rattle.console.specs.Asking.{commandOf};
-ghost use Rattle.console.specs.Obeying.{Obeys, Replies, Says, bootLent, fitted, isTold, lendIf, lending, onAsk, onAskLine, onBoot, onRow, onShow, onSize, reply, wordsFor};
+ghost use Rattle.console.specs.Obeying.{Obeys, Replies, Says, bootLent, fitted, isTold, lendIf, lending, onAsk, onAskLine, onBoot, onRow, onShow, onSize, onTree, reply, wordsFor};
 ghost use Rattle.console.specs.Writing.{ascii};
 
 // What is kept from line to line: how many words of the table are lent, and what is to be written.
@@ -224,7 +224,7 @@ fn show_lent(table: &[u32], control: &[u32; 4], out: &mut [u8], desk: Desk) -> D
 
 // `tree`, of tables that are well-formed.
 fn draw_lent(table: &[u32], control: &[u32; 4], out: &mut [u8], desk: Desk) -> Desk
-    ensures { λ r. ⌜ r .lent ≡ desk .lent ⌝ }
+    ensures { λ r. ⌜ Says (onTree (lending (now (table .entry)) (now (control .entry)) (desk .lent)) .text) (now (out .entry)) desk (now (out .exit)) r ⌝ }
 {
     let lent = desk.lent;
     if table.len() < lent {

@@ -4,7 +4,7 @@ use denote.Ref.{now}
 use mathlib.Core.Path.{refl, sym, ap, _∙_}
 use Rattle.console.specs.Obeying.{lending, reply}
 use Rattle.console.proofs.Writing.{nothing}
-use Rattle.console.proofs.Obeyed.{becomes, told, shown, control-set, obeyed, obeyed-untold}
+use Rattle.console.proofs.Obeyed.{becomes, told, shown, drawn, control-set, obeyed, obeyed-untold}
 use borrow.Author.Needs.{needs}
 use Rattle.console.proofs.command.obey.Statement.{statement}
 use Rattle.console.proofs.command.obey.Tie as tie
@@ -165,7 +165,7 @@ same-length-13 c = search needs
 
 returns-8 : tie.Need-returns-8
 unfolding reply
-returns-8 c = obeyed-untold (lending (now (c .before .before .before .before .before .before .before .before .before .before .before .args .table)) (now (c .before .before .before .before .before .before .before .before .before .before .before .args .control)) (c .before .before .before .before .before .before .before .before .before .before .before .args .desk .lent)) (now (c .before .before .before .before .before .before .before .before .before .before .before .args .numbers)) (c .before .before .before .before .before .before .before .before .before .before .before .args .line .count) (sym (c .before .before .before .before .before .before .enum-told8 .given .1) ∙ c .before .before .before .before .before .before .before .before .command-of .ensures) refl (ap (λ (n : ℕ). lending (now (c .before .before .before .before .before .before .before .before .before .before .before .args .table)) (now (c .before .before .before .before .before .before .before .before .before .before .before .args .control)) n) (c .before .before .draw-lent .ensures))
+returns-8 c = obeyed (lending (now (c .before .before .before .before .before .before .before .before .before .before .before .args .table)) (now (c .before .before .before .before .before .before .before .before .before .before .before .args .control)) (c .before .before .before .before .before .before .before .before .before .before .before .args .desk .lent)) (now (c .before .before .before .before .before .before .before .before .before .before .before .args .numbers)) (c .before .before .before .before .before .before .before .before .before .before .before .args .line .count) (sym (c .before .before .before .before .before .before .enum-told8 .given .1) ∙ c .before .before .before .before .before .before .before .before .command-of .ensures) (drawn _ _ (c .before .before .draw-lent .ensures))
 
 same-length-14 : tie.Need-same-length-14
 same-length-14 c = search needs
