@@ -1,6 +1,6 @@
 -- The lines of the drawn tree, put together from what is written piece by piece.
 use Prim.Native.Nat.{ℕ, zero, suc, _-_, _*_, _+_, _^_, _≤_, _<_}
-use mathlib.Core.Path.{_≡_, refl, sym, ap, _∙_}
+use mathlib.Core.Path.{_≡_, sym, _∙_}
 use mathlib.Core.List.{List, [], _++_, append-assoc, append-nil}
 use native.Mathlib.Omega.{arith}
 use native.Mathlib.Nat.{sub-self}
@@ -10,7 +10,7 @@ use borrow.Author.Tests.{le-leb, lt-leb, lt-ltb, le-ltb}
 use Rattle.model.specs.Tables.{word, capOf}
 use Rattle.model.specs.declared.Cap.{Cap}
 use Rattle.console.specs.Writing.{ascii, decimal}
-use Rattle.console.specs.Drawn.{nextRow, indent, named, bytesText, capText, drawnRow, drawnRows, treeText}
+use Rattle.console.specs.Drawn.{nextRow, indent, named, bytesText, capText, drawnRow, drawnRows}
 
 -- one depth more
 pub deeper : (depth left : ℕ) → 0 < left → left ≤ depth → indent (depth - left) ++ ascii "  " ≡ indent (depth - (left - 1))

@@ -1,14 +1,14 @@
 -- What a line does, put together from what is done step by step.
-use Prim.Native.Nat.{ℕ, zero, suc, _+_, _-_, _*_, _^_, _%_, _≤_, _<_}
+use Prim.Native.Nat.{ℕ, _+_, _-_, _*_, _^_, _%_, _≤_, _<_}
 use mathlib.Core.Path.{_≡_, refl, sym, ap, _∙_}
 use mathlib.Core.Bool.{Bool, true, false, cond}
-use mathlib.Core.List.{List, [], _∷_, _++_}
+use mathlib.Core.List.{List, [], _++_}
 use native.Mathlib.Omega.{arith}
 use native.Mathlib.Nat.{sub-zero}
 use native.Mathlib.Numerals.{add-one}
 use lib.Dec.{leb, lit<}
-use lib.ListN.{length, take, drop, getD, set, replicate, length-take, length-drop, length-set, replicate-append-replicate}
-use lib.Seq.{length-take-le, take-all, take-suc, take-suc-set, getD-drop}
+use lib.ListN.{length, take, drop, getD, set, replicate, replicate-append-replicate}
+use lib.Seq.{length-take-le, take-all, take-suc, take-suc-set}
 use lib.Pow.{pow-pos, shl-exact}
 use borrow.Author.Tests.{le-leb, lt-leb}
 use borrow.Rule.Slice.PartMut.{putMid, post-is}
@@ -16,7 +16,7 @@ use Rattle.model.specs.Edition.{edition32}
 use Rattle.model.specs.Lists.{within as between}
 use Rattle.model.specs.Rules.{mInRange, wellFormed}
 use Rattle.model.specs.Tables.{Tables, lent, rows}
-use Rattle.model.specs.Request.{Outcome, sixWords, boot}
+use Rattle.model.specs.Request.{Outcome, sixWords}
 use Rattle.model.specs.declared.Answer.{Answer}
 use Rattle.console.specs.declared.asking.Command.{Command}
 use Rattle.console.specs.declared.command.Desk.{Desk}
@@ -24,7 +24,7 @@ use Rattle.console.specs.declared.output.Pen.{Pen}
 use Rattle.console.specs.Writing.{Writes, ascii}
 use Rattle.console.specs.Show.{answerText, showText}
 use Rattle.console.specs.Drawn.{treeText}
-use Rattle.console.specs.Obeying.{Lending, lending, tables, Reply, says, answers, within, lend, lendIf, wordsFor, fitted, bootLent, onBoot, onSize, onControl, onRow, onAsk, onAskLine, onShow, onTree, reply, isTold, Says, Replies, Obeys}
+use Rattle.console.specs.Obeying.{Lending, lending, tables, Reply, says, answers, within, lendIf, wordsFor, fitted, onSize, onControl, onRow, onAsk, onAskLine, onShow, onTree, reply, isTold, Says, Replies, Obeys}
 use Rattle.console.proofs.Writing.{nothing}
 
 -- ---- words
@@ -64,7 +64,11 @@ module _ (s : Lending) {out : List ℕ} {pen : Pen} where
   beyond r h = rw (lt-leb _ _ h) (record { after = refl; said = nothing refl refl })
 
   -- the core has answered
-  pub answered : {out′ : List ℕ} {pen′ : Pen} (asked : Tables → Outcome) {t c words : List ℕ} {a : Answer} → record { answer = a; tables = lent t c } ≡ asked (lent (take (s .count - 0) (s .table)) (s .control)) → words ≡ sixWords a → Writes out pen (answerText words) out′ pen′ → s .count ≤ length (s .table) → Replies (within s (answers s (asked (tables s)))) out pen (lending (t ++ drop (s .count - 0) (s .table)) c (s .count)) out′ pen′
+  pub answered :
+      {out′ : List ℕ} {pen′ : Pen} (asked : Tables → Outcome) {t c words : List ℕ} {a : Answer}
+      → record { answer = a; tables = lent t c } ≡ asked (lent (take (s .count - 0) (s .table)) (s .control))
+      → words ≡ sixWords a → Writes out pen (answerText words) out′ pen′ → s .count ≤ length (s .table)
+      → Replies (within s (answers s (asked (tables s)))) out pen (lending (t ++ drop (s .count - 0) (s .table)) c (s .count)) out′ pen′
   answered asked {t = t} {c = c} {a = a} e w v h =
       let outcome : record { answer = a; tables = lent t c } ≡ asked (tables s) = e ∙ ap (λ (n : ℕ). asked (lent (take n (s .table)) (s .control))) (sub-zero (s .count)) in
       rw (sub-zero (s .count), sym outcome, le-leb _ _ h) (record { after = refl; said = rw w at v })

@@ -2,12 +2,16 @@
 use Prim.Native.Nat.{ℕ}
 use denote.Ref.{now}
 use mathlib.Core.Path.{refl, sym, ap, _∙_}
-use Rattle.console.specs.Obeying.{lending, reply}
+use Rattle.console.specs.Obeying.{Lending, lending, reply}
 use Rattle.console.proofs.Writing.{nothing}
 use Rattle.console.proofs.Obeyed.{becomes, told, shown, drawn, control-set, obeyed, obeyed-untold}
 use borrow.Author.Needs.{needs}
 use Rattle.console.proofs.command.obey.Statement.{statement}
 use Rattle.console.proofs.command.obey.Tie as tie
+
+-- what is kept when the line comes
+abbrev kept : tie.Start → Lending
+kept s = lending (now (s .args .table)) (now (s .args .control)) (s .args .desk .lent)
 
 command-of-requires : tie.Need-command-of-requires
 command-of-requires c κs = search needs
@@ -98,7 +102,10 @@ bad-requires c κs = search needs
 
 returns : tie.Need-returns
 unfolding reply
-returns c = obeyed (lending (now (c .before .before .before .before .before .args .table)) (now (c .before .before .before .before .before .args .control)) (c .before .before .before .before .before .args .desk .lent)) (now (c .before .before .before .before .before .args .numbers)) (c .before .before .before .before .before .args .line .count) (sym (c .enum-told .given .1) ∙ c .before .before .command-of .ensures) (record { after = refl; said = nothing refl refl })
+returns c = 
+    let s = c .before .before .before .before .before in
+    let command = sym (c .enum-told .given .1) ∙ c .before .before .command-of .ensures in
+    obeyed (kept s) (now (s .args .numbers)) (s .args .line .count) command (record { after = refl; said = nothing refl refl })
 
 same-length : tie.Need-same-length
 same-length c = search needs
@@ -108,7 +115,10 @@ same-length-2 c = search needs
 
 returns-2 : tie.Need-returns-2
 unfolding reply
-returns-2 c = obeyed (lending (now (c .before .before .before .before .before .before .before .before .before .before .before .before .before .before .before .args .table)) (now (c .before .before .before .before .before .before .before .before .before .before .before .before .before .before .before .args .control)) (c .before .before .before .before .before .before .before .before .before .before .before .before .before .before .before .args .desk .lent)) (now (c .before .before .before .before .before .before .before .before .before .before .before .before .before .before .before .args .numbers)) (c .before .before .before .before .before .before .before .before .before .before .before .before .before .before .before .args .line .count) (sym (c .before .before .before .before .before .before .before .before .before .before .enum-told2 .given .1) ∙ c .before .before .before .before .before .before .before .before .before .before .before .before .command-of .ensures) (c .before .before .before .before .boot .ensures)
+returns-2 c = 
+    let s = c .before .before .before .before .before .before .before .before .before .before .before .before .before .before .before in
+    let command = sym (c .before .before .before .before .before .before .before .before .before .before .enum-told2 .given .1) ∙ c .before .before .before .before .before .before .before .before .before .before .before .before .command-of .ensures in
+    obeyed (kept s) (now (s .args .numbers)) (s .args .line .count) command (c .before .before .before .before .boot .ensures)
 
 same-length-3 : tie.Need-same-length-3
 same-length-3 c = search needs
@@ -118,14 +128,20 @@ same-length-4 c = search needs
 
 returns-3 : tie.Need-returns-3
 unfolding reply
-returns-3 c = obeyed (lending (now (c .before .before .before .before .before .before .before .before .before .before .before .before .before .before .args .table)) (now (c .before .before .before .before .before .before .before .before .before .before .before .before .before .before .args .control)) (c .before .before .before .before .before .before .before .before .before .before .before .before .before .before .args .desk .lent)) (now (c .before .before .before .before .before .before .before .before .before .before .before .before .before .before .args .numbers)) (c .before .before .before .before .before .before .before .before .before .before .before .before .before .before .args .line .count) (sym (c .before .before .before .before .before .before .before .before .before .enum-told3 .given .1) ∙ c .before .before .before .before .before .before .before .before .before .before .before .command-of .ensures) (c .before .before .before .before .size .ensures)
+returns-3 c = 
+    let s = c .before .before .before .before .before .before .before .before .before .before .before .before .before .before in
+    let command = sym (c .before .before .before .before .before .before .before .before .before .enum-told3 .given .1) ∙ c .before .before .before .before .before .before .before .before .before .before .before .command-of .ensures in
+    obeyed (kept s) (now (s .args .numbers)) (s .args .line .count) command (c .before .before .before .before .size .ensures)
 
 same-length-5 : tie.Need-same-length-5
 same-length-5 c = search needs
 
 returns-4 : tie.Need-returns-4
 unfolding reply
-returns-4 c = obeyed (lending (now (c .before .before .before .before .before .before .before .before .before .before .before .before .before .before .args .table)) (now (c .before .before .before .before .before .before .before .before .before .before .before .before .before .before .args .control)) (c .before .before .before .before .before .before .before .before .before .before .before .before .before .before .args .desk .lent)) (now (c .before .before .before .before .before .before .before .before .before .before .before .before .before .before .args .numbers)) (c .before .before .before .before .before .before .before .before .before .before .before .before .before .before .args .line .count) (sym (c .before .before .before .before .before .before .before .before .before .enum-told4 .given .1) ∙ c .before .before .before .before .before .before .before .before .before .before .before .command-of .ensures) (becomes (control-set _ _ _ _) (told (now (c .before .before .before .before .before .before .before .before .before .before .before .before .before .before .args .table)) _ (c .before .before .ok .ensures)))
+returns-4 c = 
+    let s = c .before .before .before .before .before .before .before .before .before .before .before .before .before .before in
+    let command = sym (c .before .before .before .before .before .before .before .before .before .enum-told4 .given .1) ∙ c .before .before .before .before .before .before .before .before .before .before .before .command-of .ensures in
+    obeyed (kept s) (now (s .args .numbers)) (s .args .line .count) command (becomes (control-set _ _ _ _) (told (now (s .args .table)) _ (c .before .before .ok .ensures)))
 
 same-length-6 : tie.Need-same-length-6
 same-length-6 c = search needs
@@ -135,7 +151,10 @@ same-length-7 c = search needs
 
 returns-5 : tie.Need-returns-5
 unfolding reply
-returns-5 c = obeyed (lending (now (c .before .before .before .before .before .before .before .before .before .before .before .before .before .before .args .table)) (now (c .before .before .before .before .before .before .before .before .before .before .before .before .before .before .args .control)) (c .before .before .before .before .before .before .before .before .before .before .before .before .before .before .args .desk .lent)) (now (c .before .before .before .before .before .before .before .before .before .before .before .before .before .before .args .numbers)) (c .before .before .before .before .before .before .before .before .before .before .before .before .before .before .args .line .count) (sym (c .before .before .before .before .before .before .before .before .before .enum-told5 .given .1) ∙ c .before .before .before .before .before .before .before .before .before .before .before .command-of .ensures) (c .before .before .before .before .set-row .ensures _)
+returns-5 c = 
+    let s = c .before .before .before .before .before .before .before .before .before .before .before .before .before .before in
+    let command = sym (c .before .before .before .before .before .before .before .before .before .enum-told5 .given .1) ∙ c .before .before .before .before .before .before .before .before .before .before .before .command-of .ensures in
+    obeyed (kept s) (now (s .args .numbers)) (s .args .line .count) command (c .before .before .before .before .set-row .ensures _)
 
 same-length-8 : tie.Need-same-length-8
 same-length-8 c = search needs
@@ -145,7 +164,10 @@ same-length-9 c = search needs
 
 returns-6 : tie.Need-returns-6
 unfolding reply
-returns-6 c = obeyed (lending (now (c .before .before .before .before .before .before .before .before .before .before .before .before .before .before .args .table)) (now (c .before .before .before .before .before .before .before .before .before .before .before .before .before .before .args .control)) (c .before .before .before .before .before .before .before .before .before .before .before .before .before .before .args .desk .lent)) (now (c .before .before .before .before .before .before .before .before .before .before .before .before .before .before .args .numbers)) (c .before .before .before .before .before .before .before .before .before .before .before .before .before .before .args .line .count) (sym (c .before .before .before .before .before .before .before .before .before .enum-told6 .given .1) ∙ c .before .before .before .before .before .before .before .before .before .before .before .command-of .ensures) (c .before .before .before .before .ask .ensures)
+returns-6 c = 
+    let s = c .before .before .before .before .before .before .before .before .before .before .before .before .before .before in
+    let command = sym (c .before .before .before .before .before .before .before .before .before .enum-told6 .given .1) ∙ c .before .before .before .before .before .before .before .before .before .before .before .command-of .ensures in
+    obeyed (kept s) (now (s .args .numbers)) (s .args .line .count) command (c .before .before .before .before .ask .ensures)
 
 same-length-10 : tie.Need-same-length-10
 same-length-10 c = search needs
@@ -155,7 +177,10 @@ same-length-11 c = search needs
 
 returns-7 : tie.Need-returns-7
 unfolding reply
-returns-7 c = obeyed (lending (now (c .before .before .before .before .before .before .before .before .before .before .before .args .table)) (now (c .before .before .before .before .before .before .before .before .before .before .before .args .control)) (c .before .before .before .before .before .before .before .before .before .before .before .args .desk .lent)) (now (c .before .before .before .before .before .before .before .before .before .before .before .args .numbers)) (c .before .before .before .before .before .before .before .before .before .before .before .args .line .count) (sym (c .before .before .before .before .before .before .enum-told7 .given .1) ∙ c .before .before .before .before .before .before .before .before .command-of .ensures) (shown _ _ (c .before .before .show-lent .ensures))
+returns-7 c = 
+    let s = c .before .before .before .before .before .before .before .before .before .before .before in
+    let command = sym (c .before .before .before .before .before .before .enum-told7 .given .1) ∙ c .before .before .before .before .before .before .before .before .command-of .ensures in
+    obeyed (kept s) (now (s .args .numbers)) (s .args .line .count) command (shown _ _ (c .before .before .show-lent .ensures))
 
 same-length-12 : tie.Need-same-length-12
 same-length-12 c = search needs
@@ -165,7 +190,10 @@ same-length-13 c = search needs
 
 returns-8 : tie.Need-returns-8
 unfolding reply
-returns-8 c = obeyed (lending (now (c .before .before .before .before .before .before .before .before .before .before .before .args .table)) (now (c .before .before .before .before .before .before .before .before .before .before .before .args .control)) (c .before .before .before .before .before .before .before .before .before .before .before .args .desk .lent)) (now (c .before .before .before .before .before .before .before .before .before .before .before .args .numbers)) (c .before .before .before .before .before .before .before .before .before .before .before .args .line .count) (sym (c .before .before .before .before .before .before .enum-told8 .given .1) ∙ c .before .before .before .before .before .before .before .before .command-of .ensures) (drawn _ _ (c .before .before .draw-lent .ensures))
+returns-8 c = 
+    let s = c .before .before .before .before .before .before .before .before .before .before .before in
+    let command = sym (c .before .before .before .before .before .before .enum-told8 .given .1) ∙ c .before .before .before .before .before .before .before .before .command-of .ensures in
+    obeyed (kept s) (now (s .args .numbers)) (s .args .line .count) command (drawn _ _ (c .before .before .draw-lent .ensures))
 
 same-length-14 : tie.Need-same-length-14
 same-length-14 c = search needs
@@ -175,14 +203,20 @@ same-length-15 c = search needs
 
 returns-9 : tie.Need-returns-9
 unfolding reply
-returns-9 c = obeyed-untold (lending (now (c .before .before .before .before .before .before .before .before .before .before .before .before .args .table)) (now (c .before .before .before .before .before .before .before .before .before .before .before .before .args .control)) (c .before .before .before .before .before .before .before .before .before .before .before .before .args .desk .lent)) (now (c .before .before .before .before .before .before .before .before .before .before .before .before .args .numbers)) (c .before .before .before .before .before .before .before .before .before .before .before .before .args .line .count) (sym (c .before .before .before .before .before .before .before .enum-told9 .given .1) ∙ c .before .before .before .before .before .before .before .before .before .command-of .ensures) refl (ap (λ (n : ℕ). lending (now (c .before .before .before .before .before .before .before .before .before .before .before .before .args .table)) (now (c .before .before .before .before .before .before .before .before .before .before .before .before .args .control)) n) (c .before .before .estate-lent .ensures))
+returns-9 c = 
+    let s = c .before .before .before .before .before .before .before .before .before .before .before .before in
+    let command = sym (c .before .before .before .before .before .before .before .enum-told9 .given .1) ∙ c .before .before .before .before .before .before .before .before .before .command-of .ensures in
+    obeyed-untold (kept s) (now (s .args .numbers)) (s .args .line .count) command refl (ap (λ (n : ℕ). lending (now (s .args .table)) (now (s .args .control)) n) (c .before .before .estate-lent .ensures))
 
 same-length-16 : tie.Need-same-length-16
 same-length-16 c = search needs
 
 returns-10 : tie.Need-returns-10
 unfolding reply
-returns-10 c = obeyed (lending (now (c .before .before .before .before .before .before .before .before .before .args .table)) (now (c .before .before .before .before .before .before .before .before .before .args .control)) (c .before .before .before .before .before .before .before .before .before .args .desk .lent)) (now (c .before .before .before .before .before .before .before .before .before .args .numbers)) (c .before .before .before .before .before .before .before .before .before .args .line .count) (sym (c .before .before .before .before .enum-told10 .given .1) ∙ c .before .before .before .before .before .before .command-of .ensures) (told _ _ (c .before .before .bad .ensures))
+returns-10 c = 
+    let s = c .before .before .before .before .before .before .before .before .before in
+    let command = sym (c .before .before .before .before .enum-told10 .given .1) ∙ c .before .before .before .before .before .before .command-of .ensures in
+    obeyed (kept s) (now (s .args .numbers)) (s .args .line .count) command (told _ _ (c .before .before .bad .ensures))
 
 pub obey-spec : {M : Type 1} → statement M
 obey-spec =

@@ -1,5 +1,4 @@
 -- Out of range, and in range.
-use Prim.Native.Nat.{_≤_}
 use Rattle.console.proofs.Obeyed.{words-none, words-some, low-out, high-out}
 use borrow.Author.Needs.{needs}
 use Rattle.console.proofs.command.words_for.Statement.{statement}

@@ -1,5 +1,5 @@
 -- By the place.
-use mathlib.Core.Path.{_∙_, sym}
+use mathlib.Core.Path.{_∙_}
 use borrow.Author.Tests.{eq-eqb, ne-eqb}
 use Rattle.console.specs.Bytes.{ended}
 use borrow.Author.Needs.{needs}

@@ -1,9 +1,7 @@
 -- Each turn draws the next row of the list.
 use mathlib.Core.Path.{_≡_, refl, _∙_, ap}
-use Prim.Native.Nat.{_≤_}
 use mathlib.Core.List.{List, _++_}
 use denote.Ref.{now}
-use native.Mathlib.Omega.{arith}
 use Prim.Native.Nat.{ℕ}
 use lib.ListN.{length}
 use Rattle.console.specs.Writing.{Writes, ascii}

@@ -1,7 +1,6 @@
 -- A row of the table, or none.
 use mathlib.Core.Path.{refl}
 use denote.Ref.{now}
-use mathlib.Core.List.{append-assoc}
 use Rattle.console.proofs.Writing.{alike, nothing, _then_}
 use Rattle.console.proofs.Drawing.{row-drawn, row-outside}
 use borrow.Author.Needs.{needs}
