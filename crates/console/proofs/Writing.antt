@@ -64,7 +64,6 @@ module _ {out : List ℕ} {pen pen′ : Pen} where
 -- ---- what is written
 
 infixl 20 _then_
-
 module _ {out out′ : List ℕ} {pen pen′ : Pen} where
   -- nothing is written
   pub nothing : out′ ≡ out → pen′ ≡ pen → Writes out pen [] out′ pen′

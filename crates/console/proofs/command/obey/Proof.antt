@@ -102,7 +102,7 @@ bad-requires c κs = search needs
 
 returns : tie.Need-returns
 unfolding reply
-returns c = 
+returns c =
     let s = c .before .before .before .before .before in
     let command = sym (c .enum-told .given .1) ∙ c .before .before .command-of .ensures in
     obeyed (kept s) (now (s .args .numbers)) (s .args .line .count) command (record { after = refl; said = nothing refl refl })
@@ -115,7 +115,7 @@ same-length-2 c = search needs
 
 returns-2 : tie.Need-returns-2
 unfolding reply
-returns-2 c = 
+returns-2 c =
     let s = c .before .before .before .before .before .before .before .before .before .before .before .before .before .before .before in
     let command = sym (c .before .before .before .before .before .before .before .before .before .before .enum-told2 .given .1) ∙ c .before .before .before .before .before .before .before .before .before .before .before .before .command-of .ensures in
     obeyed (kept s) (now (s .args .numbers)) (s .args .line .count) command (c .before .before .before .before .boot .ensures)
@@ -128,7 +128,7 @@ same-length-4 c = search needs
 
 returns-3 : tie.Need-returns-3
 unfolding reply
-returns-3 c = 
+returns-3 c =
     let s = c .before .before .before .before .before .before .before .before .before .before .before .before .before .before in
     let command = sym (c .before .before .before .before .before .before .before .before .before .enum-told3 .given .1) ∙ c .before .before .before .before .before .before .before .before .before .before .before .command-of .ensures in
     obeyed (kept s) (now (s .args .numbers)) (s .args .line .count) command (c .before .before .before .before .size .ensures)
@@ -138,7 +138,7 @@ same-length-5 c = search needs
 
 returns-4 : tie.Need-returns-4
 unfolding reply
-returns-4 c = 
+returns-4 c =
     let s = c .before .before .before .before .before .before .before .before .before .before .before .before .before .before in
     let command = sym (c .before .before .before .before .before .before .before .before .before .enum-told4 .given .1) ∙ c .before .before .before .before .before .before .before .before .before .before .before .command-of .ensures in
     obeyed (kept s) (now (s .args .numbers)) (s .args .line .count) command (becomes (control-set _ _ _ _) (told (now (s .args .table)) _ (c .before .before .ok .ensures)))
@@ -151,7 +151,7 @@ same-length-7 c = search needs
 
 returns-5 : tie.Need-returns-5
 unfolding reply
-returns-5 c = 
+returns-5 c =
     let s = c .before .before .before .before .before .before .before .before .before .before .before .before .before .before in
     let command = sym (c .before .before .before .before .before .before .before .before .before .enum-told5 .given .1) ∙ c .before .before .before .before .before .before .before .before .before .before .before .command-of .ensures in
     obeyed (kept s) (now (s .args .numbers)) (s .args .line .count) command (c .before .before .before .before .set-row .ensures _)
@@ -164,7 +164,7 @@ same-length-9 c = search needs
 
 returns-6 : tie.Need-returns-6
 unfolding reply
-returns-6 c = 
+returns-6 c =
     let s = c .before .before .before .before .before .before .before .before .before .before .before .before .before .before in
     let command = sym (c .before .before .before .before .before .before .before .before .before .enum-told6 .given .1) ∙ c .before .before .before .before .before .before .before .before .before .before .before .command-of .ensures in
     obeyed (kept s) (now (s .args .numbers)) (s .args .line .count) command (c .before .before .before .before .ask .ensures)
@@ -177,7 +177,7 @@ same-length-11 c = search needs
 
 returns-7 : tie.Need-returns-7
 unfolding reply
-returns-7 c = 
+returns-7 c =
     let s = c .before .before .before .before .before .before .before .before .before .before .before in
     let command = sym (c .before .before .before .before .before .before .enum-told7 .given .1) ∙ c .before .before .before .before .before .before .before .before .command-of .ensures in
     obeyed (kept s) (now (s .args .numbers)) (s .args .line .count) command (shown _ _ (c .before .before .show-lent .ensures))
@@ -190,7 +190,7 @@ same-length-13 c = search needs
 
 returns-8 : tie.Need-returns-8
 unfolding reply
-returns-8 c = 
+returns-8 c =
     let s = c .before .before .before .before .before .before .before .before .before .before .before in
     let command = sym (c .before .before .before .before .before .before .enum-told8 .given .1) ∙ c .before .before .before .before .before .before .before .before .command-of .ensures in
     obeyed (kept s) (now (s .args .numbers)) (s .args .line .count) command (drawn _ _ (c .before .before .draw-lent .ensures))
@@ -203,7 +203,7 @@ same-length-15 c = search needs
 
 returns-9 : tie.Need-returns-9
 unfolding reply
-returns-9 c = 
+returns-9 c =
     let s = c .before .before .before .before .before .before .before .before .before .before .before .before in
     let command = sym (c .before .before .before .before .before .before .before .enum-told9 .given .1) ∙ c .before .before .before .before .before .before .before .before .before .command-of .ensures in
     obeyed-untold (kept s) (now (s .args .numbers)) (s .args .line .count) command refl (ap (λ (n : ℕ). lending (now (s .args .table)) (now (s .args .control)) n) (c .before .before .estate-lent .ensures))
@@ -213,7 +213,7 @@ same-length-16 c = search needs
 
 returns-10 : tie.Need-returns-10
 unfolding reply
-returns-10 c = 
+returns-10 c =
     let s = c .before .before .before .before .before .before .before .before .before in
     let command = sym (c .before .before .before .before .enum-told10 .given .1) ∙ c .before .before .before .before .before .before .command-of .ensures in
     obeyed (kept s) (now (s .args .numbers)) (s .args .line .count) command (told _ _ (c .before .before .bad .ensures))

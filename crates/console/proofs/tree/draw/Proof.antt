@@ -34,9 +34,8 @@ loop-less : tie.Need-loop-less Inv-loop μ-loop
 loop-less c = search needs
 
 loop-again : tie.Need-loop-again Inv-loop μ-loop
-loop-again c = 
-    let i = c .before .before .before .before .before .before .loop .inv in
-    (
+loop-again c =
+    let i = c .before .before .before .before .before .before .loop .inv in (
       keeps-length (c .before .before .before .draw-row .ensures) ∙ i .0,
       (_, i .1 .1 then c .before .before .before .draw-row .ensures, next-drawn (now (c .before .before .before .before .before .before .before .before .before .args .table)) _ (i .1 .0) (c .before .before .before .before .before .before .loop .left) (c .before .before .before .before .before .before .loop .row) _ (c .next-row .ensures) (c .before .before .before .before .before .loop-test .taken) (i .1 .2)),
     )
@@ -51,7 +50,7 @@ same-length : tie.Need-same-length Inv-loop μ-loop
 same-length c = search needs
 
 returns : tie.Need-returns Inv-loop μ-loop
-returns c = 
+returns c =
     let i = c .before .before .before .before .before .before .loop .inv in
     alike (ap (λ (rows : List ℕ). rows ++ ascii "end\n") (all-drawn (now (c .before .before .before .before .before .before .before .before .before .args .table)) _ (i .1 .0) (c .before .before .before .before .before .before .loop .left) (c .before .before .before .before .before .before .loop .row) (c .before .before .before .before .before .loop-test .left) (i .1 .2))) (i .1 .1 then c .before .before .put-text .ensures)
 
