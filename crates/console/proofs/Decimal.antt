@@ -1,6 +1,6 @@
 -- Reading a number byte by byte gives the number that the digits stand for, and no number where a byte is no digit or a word does not hold
 -- it: a number only grows by further digits. And a number that is printed in decimal is read back.
-use Prim.Native.Nat.{ℕ, zero, suc, _+_, _*_, _-_, _/_, _%_, _^_, _≤_, _<_}
+use Prim.Native.Nat.{ℕ, zero, suc, _+_, _/_, _%_, _≤_, _<_}
 use mathlib.Core.Path.{_≡_, refl, _∙_}
 use mathlib.Core.Bool.{Bool, true, false, cond, _&&_}
 use mathlib.Core.List.{List, [], _∷_, _++_}
@@ -9,8 +9,9 @@ use native.Mathlib.Nat.{mod-lt, div-add-mod'}
 use lib.Dec.{leb, ltb}
 use borrow.Author.Tests.{le-leb, lt-ltb, le-ltb, ltb-true, ltb-false}
 use Rattle.model.proofs.Booleans.{and-left, and-right, and-intro}
-use Rattle.io.specs.Digits.{glyph, digits}
+use Rattle.io.specs.Digits.{glyph}
 use Rattle.console.specs.Decimal.{isDigit, more, withByte, valueFrom}
+use Rattle.console.specs.Writing.{decimal, decimalWithin}
 use Rattle.console.specs.declared.line.Reading.{Reading}
 use Rattle.console.specs.declared.line.Reading.the-variants.{Number, NoNumber}
 
@@ -68,26 +69,33 @@ all-end [] b p q = rw q
 all-end (a ∷ bs) b p q = and-intro {b = isDigit a} (and-left (isDigit a) (allDigits bs) p) (all-end bs b (and-right (isDigit a) (allDigits bs) p) q)
 
 -- the last digit of a number, printed
-glyph-is : (n : ℕ) → glyph (n % 10) ≡ 48 + n % 10
+pub glyph-is : (n : ℕ) → glyph (n % 10) ≡ 48 + n % 10
 glyph-is n = rw (lt-ltb (n % 10) 10 (mod-lt n (omega arith)))
 
-glyph-digit : (n : ℕ) → isDigit (glyph (n % 10)) ≡ true
-glyph-digit n =
-    let low : n % 10 < 10 = mod-lt n (omega arith) in
-    rw (glyph-is n) (and-intro {b = leb 48 (48 + n % 10)} (le-leb 48 (48 + n % 10) (omega arith)) (le-leb (48 + n % 10) 57 (omega arith)))
+digit-is : (d : ℕ) → d < 10 → isDigit (48 + d) ≡ true
+digit-is d h = and-intro {b = leb 48 (48 + d)} (le-leb 48 (48 + d) (omega arith)) (le-leb (48 + d) 57 (omega arith))
 
 -- what is printed are digits
-printed-digits : (k n : ℕ) → allDigits (digits 10 k n) ≡ true
-printed-digits zero n = refl
-printed-digits (suc k) n = all-end (digits 10 k (n / 10)) (glyph (n % 10)) (printed-digits k (n / 10)) (glyph-digit n)
+printed-digits : (most n : ℕ) → n ≤ most → allDigits (decimalWithin most n) ≡ true
+printed-digits zero n h = rw (digit-is n (omega arith))
+printed-digits (suc most) n h = go (ltb n 10) refl (printed-digits most (n / 10))
+  where
+    go : (small : Bool) → ltb n 10 ≡ small → (n / 10 ≤ most → allDigits (decimalWithin most (n / 10)) ≡ true) → allDigits (decimalWithin (suc most) n) ≡ true
+    go true p front = rw (p, digit-is n (ltb-true n 10 p))
+    go false p front = rw p (all-end (decimalWithin most (n / 10)) (48 + n % 10) (front (omega (arith, ltb-false n 10 p))) (digit-is (n % 10) (mod-lt n (omega arith))))
 
 -- and stand for the number
-printed-value : (k n : ℕ) → n < 10 ^ k → valueFrom 0 (digits 10 k n) ≡ n
+printed-value : (most n : ℕ) → n ≤ most → valueFrom 0 (decimalWithin most n) ≡ n
 printed-value zero n h = omega arith
-printed-value (suc k) n h =
-    let before : valueFrom 0 (digits 10 k (n / 10)) ≡ n / 10 = printed-value k (n / 10) (omega arith) in
-    value-end 0 (digits 10 k (n / 10)) (glyph (n % 10)) ∙ rw (before, glyph-is n) (omega (arith, div-add-mod' n 10))
+printed-value (suc most) n h = go (ltb n 10) refl (printed-value most (n / 10))
+  where
+    go : (small : Bool) → ltb n 10 ≡ small → (n / 10 ≤ most → valueFrom 0 (decimalWithin most (n / 10)) ≡ n / 10) → valueFrom 0 (decimalWithin (suc most) n) ≡ n
+    go true p front = rw p (omega arith)
+    go false p front =
+        let whole : valueFrom 0 (decimalWithin most (n / 10)) ≡ n / 10 = front (omega (arith, ltb-false n 10 p)) in
+        rw p (value-end 0 (decimalWithin most (n / 10)) (48 + n % 10) ∙ rw whole (omega (arith, div-add-mod' n 10)))
 
 -- a number that is printed is read back
-pub read-back : (k n : ℕ) → n < 10 ^ k → n < 4294967296 → readFrom (Number 0) (digits 10 k n) ≡ Number n
-read-back k n h w = reads 0 (digits 10 k n) (omega arith) ∙ rw (printed-digits k n, printed-value k n h, lt-ltb n 4294967296 w)
+pub read-back : (n : ℕ) → n < 4294967296 → readFrom (Number 0) (decimal n) ≡ Number n
+unfolding decimal
+read-back n w = reads 0 (decimalWithin n n) (omega arith) ∙ rw (printed-digits n n (omega arith), printed-value n n (omega arith), lt-ltb n 4294967296 w)

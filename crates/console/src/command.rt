@@ -1,7 +1,8 @@
-// What a line asks for, and that it is done.
+// What a line asks for is done.
+use crate::asking::Command;
+use crate::asking::command_of;
 use crate::estate::put_estate;
 use crate::line::Line;
-use crate::line::says_nothing;
 use crate::output::Pen;
 use crate::output::put_text;
 use crate::show::put_answer;
@@ -9,22 +10,13 @@ use crate::show::show;
 use crate::tree::draw;
 use table::figures::m_in_range;
 use table::figures::table_words;
+ghost use Prim.Native.Nat.{ℕ, _≤_};
 ghost use mathlib.Core.Path.{_≡_};
-ghost use lib.ListN.{length};
-
-// What a line asks for.
-pub enum Command {
-    Nothing,
-    Boot,
-    Size,
-    Control,
-    Row,
-    Ask,
-    Show,
-    Tree,
-    Estate,
-    Bad,
-}
+ghost use mathlib.Core.List.{List};
+ghost use lib.ListN.{drop, length, replicate, take};
+ghost use Rattle.console.specs.Asking.{commandOf};
+ghost use Rattle.console.specs.Obeying.{Obeys, Replies, Says, bootLent, fitted, isTold, lendIf, lending, onAsk, onAskLine, onBoot, onRow, onShow, onSize, onTree, reply, wordsFor};
+ghost use Rattle.console.specs.Writing.{ascii};
 
 // What is kept from line to line: how many words of the table are lent, and what is to be written.
 pub struct Desk {
@@ -32,75 +24,10 @@ pub struct Desk {
     pub pen: Pen,
 }
 
-// A command by the key of its first word, in hexadecimal 1 and then the word in ASCII, and the count of its numbers.
-fn by_key(key: u64, count: usize) -> Command {
-    match key {
-        // boot
-        0x1626f6f74 => {
-            if count == 2 {
-                return Command::Boot;
-            }
-        }
-        // size
-        0x173697a65 => {
-            if count == 1 {
-                return Command::Size;
-            }
-        }
-        // control
-        0x1636f6e74726f6c => {
-            if count == 4 {
-                return Command::Control;
-            }
-        }
-        // row
-        0x1726f77 => {
-            if count == 9 {
-                return Command::Row;
-            }
-        }
-        // ask
-        0x161736b => {
-            if 1 <= count {
-                return Command::Ask;
-            }
-        }
-        // show
-        0x173686f77 => {
-            if count == 0 {
-                return Command::Show;
-            }
-        }
-        // tree
-        0x174726565 => {
-            if count == 0 {
-                return Command::Tree;
-            }
-        }
-        // estate
-        0x1657374617465 => {
-            if count == 1 {
-                return Command::Estate;
-            }
-        }
-        _ => {}
-    }
-    Command::Bad
-}
-
-// What a whole line asks for.
-fn command_of(line: Line) -> Command {
-    if says_nothing(line) {
-        return Command::Nothing;
-    }
-    if line.bad {
-        return Command::Bad;
-    }
-    by_key(line.key, line.count)
-}
-
 // A line that is refused.
-fn bad(out: &mut [u8], desk: Desk) -> Desk {
+fn bad(out: &mut [u8], desk: Desk) -> Desk
+    ensures { λ r. ⌜ Says (ascii "bad\n") (now (out .entry)) desk (now (out .exit)) r ⌝ }
+{
     let pen = put_text(out, desk.pen, b"bad\n");
     Desk {
         lent: desk.lent,
@@ -109,7 +36,9 @@ fn bad(out: &mut [u8], desk: Desk) -> Desk {
 }
 
 // A line that is done, with nothing else to say.
-fn ok(out: &mut [u8], desk: Desk) -> Desk {
+fn ok(out: &mut [u8], desk: Desk) -> Desk
+    ensures { λ r. ⌜ Says (ascii "ok\n") (now (out .entry)) desk (now (out .exit)) r ⌝ }
+{
     let pen = put_text(out, desk.pen, b"ok\n");
     Desk {
         lent: desk.lent,
@@ -118,7 +47,9 @@ fn ok(out: &mut [u8], desk: Desk) -> Desk {
 }
 
 // Sets words to 0.
-fn clear(words: &mut [u32]) {
+fn clear(words: &mut [u32])
+    ensures { λ r. ⌜ now (words .exit) ≡ replicate (length (now (words .entry))) 0 ⌝ }
+{
     let mut i = 0;
     while i < words.len() {
         words[i] = 0;
@@ -127,7 +58,9 @@ fn clear(words: &mut [u32]) {
 }
 
 // The words of a table for an m in Boot's range, else 0.
-fn words_for(m: u32) -> usize {
+fn words_for(m: u32) -> usize
+    ensures { λ r. ⌜ r ≡ wordsFor m ⌝ }
+{
     if !m_in_range(m) {
         return 0;
     }
@@ -135,7 +68,9 @@ fn words_for(m: u32) -> usize {
 }
 
 // The first words of the table become 0 and are lent, if it has as many; else what was lent stays so.
-fn lend(table: &mut [u32], words: usize, lent: usize) -> usize {
+fn lend(table: &mut [u32], words: usize, lent: usize) -> usize
+    ensures { λ r. ⌜ ((control : List ℕ) → lending (now (table .exit)) control r ≡ lendIf (lending (now (table .entry)) control lent) words) ⌝ }
+{
     if words <= table.len() {
         clear(&mut table[0..words]);
         return words;
@@ -144,7 +79,9 @@ fn lend(table: &mut [u32], words: usize, lent: usize) -> usize {
 }
 
 // Boot's table: for an m in range a zero table of the length that fits, else what was lent.
-fn lend_for(table: &mut [u32], m: u32, lent: usize) -> usize {
+fn lend_for(table: &mut [u32], m: u32, lent: usize) -> usize
+    ensures { λ r. ⌜ ((control : List ℕ) → lending (now (table .exit)) control r ≡ fitted (lending (now (table .entry)) control lent) m) ⌝ }
+{
     let words = words_for(m);
     if words == 0 {
         return lent;
@@ -159,11 +96,13 @@ fn boot_lent(
     out: &mut [u8],
     desk: Desk,
     m: u32,
-    r: u32,
-) -> Desk {
+    radix: u32,
+) -> Desk
+    ensures { λ r. ⌜ Replies (bootLent (lending (now (table .entry)) (now (control .entry)) (desk .lent)) m radix) (now (out .entry)) (desk .pen) (lending (now (table .exit)) (now (control .exit)) (r .lent)) (now (out .exit)) (r .pen) ⌝ }
+{
     let lent = desk.lent;
     if lent <= table.len() {
-        let answer = core::boot(&mut table[0..lent], control, m, r);
+        let answer = core::boot(&mut table[0..lent], control, m, radix);
         let pen = put_answer(out, desk.pen, core::answer_words(answer));
         return Desk { lent, pen };
     }
@@ -178,7 +117,9 @@ fn request_lent(
     desk: Desk,
     caller: u32,
     message: &[u32],
-) -> Desk {
+) -> Desk
+    ensures { λ r. ⌜ Replies (onAsk (lending (now (table .entry)) (now (control .entry)) (desk .lent)) caller (now (message .entry))) (now (out .entry)) (desk .pen) (lending (now (table .exit)) (now (control .exit)) (r .lent)) (now (out .exit)) (r .pen) ⌝ }
+{
     let lent = desk.lent;
     if lent <= table.len() {
         let answer = core::request(&mut table[0..lent], control, caller, message);
@@ -195,11 +136,13 @@ fn boot(
     out: &mut [u8],
     desk: Desk,
     m: u32,
-    r: u32,
-) -> Desk {
+    radix: u32,
+) -> Desk
+    ensures { λ r. ⌜ Replies (onBoot (lending (now (table .entry)) (now (control .entry)) (desk .lent)) m radix) (now (out .entry)) (desk .pen) (lending (now (table .exit)) (now (control .exit)) (r .lent)) (now (out .exit)) (r .pen) ⌝ }
+{
     let mut ready = desk;
     ready.lent = lend_for(table, m, desk.lent);
-    boot_lent(table, control, out, ready, m, r)
+    boot_lent(table, control, out, ready, m, radix)
 }
 
 // `ask CALLER W0 W1 ..`: a request, on the lent table, of the words after the first of a line's numbers.
@@ -210,7 +153,9 @@ fn ask(
     desk: Desk,
     numbers: &[u32],
     count: usize,
-) -> Desk {
+) -> Desk
+    ensures { λ r. ⌜ Replies (onAskLine (lending (now (table .entry)) (now (control .entry)) (desk .lent)) (now (numbers .entry)) count) (now (out .entry)) (desk .pen) (lending (now (table .exit)) (now (control .exit)) (r .lent)) (now (out .exit)) (r .pen) ⌝ }
+{
     if count < 1 {
         return bad(out, desk);
     }
@@ -221,7 +166,9 @@ fn ask(
 }
 
 // `size N`: a table of N zero words, and control words 0.
-fn size(table: &mut [u32], control: &mut [u32; 4], out: &mut [u8], desk: Desk, n: u32) -> Desk {
+fn size(table: &mut [u32], control: &mut [u32; 4], out: &mut [u8], desk: Desk, n: u32) -> Desk
+    ensures { λ r. ⌜ Replies (onSize (lending (now (table .entry)) (now (control .entry)) (desk .lent)) n) (now (out .entry)) (desk .pen) (lending (now (table .exit)) (now (control .exit)) (r .lent)) (now (out .exit)) (r .pen) ⌝ }
+{
     let words = n as usize;
     if table.len() < words {
         return bad(out, desk);
@@ -232,19 +179,23 @@ fn size(table: &mut [u32], control: &mut [u32; 4], out: &mut [u8], desk: Desk, n
     ok(out, ready)
 }
 
-// The eight words of a row are those after the first of a line's numbers.
-fn put_row(row: &mut [u32], numbers: &[u32; 17])
-    requires { ⌜ length (now row) ≡ 8 ⌝ }
+// The words of a row become those of a line.
+fn put_row(row: &mut [u32], words: &[u32])
+    requires { ⌜ length (now row) ≡ length (now words) ⌝ }
+    ensures { λ r. ⌜ now (row .exit) ≡ now (words .entry) ⌝ }
 {
     let mut i = 0;
-    while i < 8 {
-        row[i] = numbers[i + 1];
+    while i < words.len() {
+        row[i] = words[i];
         i += 1;
     }
 }
 
 // `row K A B C D E F G H`: sets row K, if it is wholly in the lent table.
-fn set_row(table: &mut [u32], out: &mut [u8], desk: Desk, k: u32, numbers: &[u32; 17]) -> Desk {
+fn set_row(table: &mut [u32], out: &mut [u8], desk: Desk, k: u32, numbers: &[u32]) -> Desk
+    requires { ⌜ 9 ≤ length (now numbers) ⌝ }
+    ensures { λ r. ⌜ ((control : List ℕ) → Replies (onRow (lending (now (table .entry)) control (desk .lent)) k (take 8 (drop 1 (now (numbers .entry))))) (now (out .entry)) (desk .pen) (lending (now (table .exit)) control (r .lent)) (now (out .exit)) (r .pen)) ⌝ }
+{
     let lent = desk.lent;
     let from = k as usize * 8;
     let end = from + 8;
@@ -254,12 +205,14 @@ fn set_row(table: &mut [u32], out: &mut [u8], desk: Desk, k: u32, numbers: &[u32
     if table.len() < end {
         return bad(out, desk);
     }
-    put_row(&mut table[from..end], numbers);
+    put_row(&mut table[from..end], &numbers[1..9]);
     ok(out, desk)
 }
 
 // `show`
-fn show_lent(table: &[u32], control: &[u32; 4], out: &mut [u8], desk: Desk) -> Desk {
+fn show_lent(table: &[u32], control: &[u32; 4], out: &mut [u8], desk: Desk) -> Desk
+    ensures { λ r. ⌜ Says (onShow (lending (now (table .entry)) (now (control .entry)) (desk .lent)) .text) (now (out .entry)) desk (now (out .exit)) r ⌝ }
+{
     let lent = desk.lent;
     if lent <= table.len() {
         let pen = show(&table[0..lent], control, out, desk.pen);
@@ -269,7 +222,9 @@ fn show_lent(table: &[u32], control: &[u32; 4], out: &mut [u8], desk: Desk) -> D
 }
 
 // `tree`, of tables that are well-formed.
-fn draw_lent(table: &[u32], control: &[u32; 4], out: &mut [u8], desk: Desk) -> Desk {
+fn draw_lent(table: &[u32], control: &[u32; 4], out: &mut [u8], desk: Desk) -> Desk
+    ensures { λ r. ⌜ Says (onTree (lending (now (table .entry)) (now (control .entry)) (desk .lent)) .text) (now (out .entry)) desk (now (out .exit)) r ⌝ }
+{
     let lent = desk.lent;
     if table.len() < lent {
         return desk;
@@ -283,7 +238,9 @@ fn draw_lent(table: &[u32], control: &[u32; 4], out: &mut [u8], desk: Desk) -> D
 }
 
 // `estate ROW`, of tables that are well-formed and have that row.
-fn estate_lent(table: &[u32], control: &[u32; 4], out: &mut [u8], desk: Desk, row: u32) -> Desk {
+fn estate_lent(table: &[u32], control: &[u32; 4], out: &mut [u8], desk: Desk, row: u32) -> Desk
+    ensures { λ r. ⌜ r .lent ≡ desk .lent ⌝ }
+{
     let lent = desk.lent;
     if table.len() < lent {
         return desk;
@@ -308,7 +265,9 @@ pub fn obey(
     desk: Desk,
     line: Line,
     numbers: &[u32; 17],
-) -> Desk {
+) -> Desk
+    ensures { λ r. ⌜ Obeys (isTold (commandOf line)) (reply (commandOf line) (lending (now (table .entry)) (now (control .entry)) (desk .lent)) (now (numbers .entry)) (line .count)) (now (out .entry)) (desk .pen) (lending (now (table .exit)) (now (control .exit)) (r .lent)) (now (out .exit)) (r .pen) ⌝ }
+{
     let command = command_of(line);
     match command {
         Command::Nothing => desk,

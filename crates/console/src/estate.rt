@@ -11,6 +11,7 @@ use model::EMPTY;
 use model::Row;
 use model::UNTYPED;
 use table::caps::same_object;
+use table::figures::MOST_ROWS;
 
 // A row's number as an index.
 fn index(row: u32) -> usize {
@@ -18,11 +19,16 @@ fn index(row: u32) -> usize {
 }
 
 // Row k enters the queue, unless it was there; how many have entered.
-fn enter(marks: &mut [bool; 4096], queue: &mut [u32; 4096], count: usize, k: usize) -> usize {
-    if 4096 <= k {
+fn enter(
+    marks: &mut [bool; MOST_ROWS],
+    queue: &mut [u32; MOST_ROWS],
+    count: usize,
+    k: usize,
+) -> usize {
+    if MOST_ROWS <= k {
         return count;
     }
-    if 4096 <= count {
+    if MOST_ROWS <= count {
         return count;
     }
     if marks[k] {
@@ -35,8 +41,8 @@ fn enter(marks: &mut [bool; 4096], queue: &mut [u32; 4096], count: usize, k: usi
 
 // A run of rows enters.
 fn enter_run(
-    marks: &mut [bool; 4096],
-    queue: &mut [u32; 4096],
+    marks: &mut [bool; MOST_ROWS],
+    queue: &mut [u32; MOST_ROWS],
     count: usize,
     first: u32,
     n: u32,
@@ -52,7 +58,12 @@ fn enter_run(
 }
 
 // The slots of a CNode enter.
-fn enter_slots(marks: &mut [bool; 4096], queue: &mut [u32; 4096], count: usize, cap: Cap) -> usize {
+fn enter_slots(
+    marks: &mut [bool; MOST_ROWS],
+    queue: &mut [u32; MOST_ROWS],
+    count: usize,
+    cap: Cap,
+) -> usize {
     let first = cap.address.0 >> 4;
     let radix = cap.size;
     if cap.kind == CNODE {
@@ -75,15 +86,15 @@ fn is_deeper(table: &[u32], row: u32, depth: u32) -> bool {
 // The descendants of a row enter: the unbroken run after it with greater depth.
 fn enter_descendants(
     table: &[u32],
-    marks: &mut [bool; 4096],
-    queue: &mut [u32; 4096],
+    marks: &mut [bool; MOST_ROWS],
+    queue: &mut [u32; MOST_ROWS],
     count: usize,
     row: u32,
     depth: u32,
 ) -> usize {
     let mut entered = count;
     let mut at = next_row(table, row);
-    let mut left: u32 = 4096;
+    let mut left = MOST_ROWS;
     while 0 < left && is_deeper(table, at, depth) {
         entered = enter(marks, queue, entered, index(at));
         at = next_row(table, at);
@@ -100,8 +111,8 @@ fn same_typed(a: Cap, b: Cap) -> bool {
 // Row k enters if it names the typed object of a capability.
 fn enter_same(
     table: &[u32],
-    marks: &mut [bool; 4096],
-    queue: &mut [u32; 4096],
+    marks: &mut [bool; MOST_ROWS],
+    queue: &mut [u32; MOST_ROWS],
     count: usize,
     cap: Cap,
     k: u32,
@@ -118,8 +129,8 @@ fn enter_same(
 // Every row that names the typed object of a capability enters.
 fn enter_naming(
     table: &[u32],
-    marks: &mut [bool; 4096],
-    queue: &mut [u32; 4096],
+    marks: &mut [bool; MOST_ROWS],
+    queue: &mut [u32; MOST_ROWS],
     count: usize,
     cap: Cap,
 ) -> usize {
@@ -136,8 +147,8 @@ fn enter_naming(
 // What a row brings in enters.
 fn bring(
     table: &[u32],
-    marks: &mut [bool; 4096],
-    queue: &mut [u32; 4096],
+    marks: &mut [bool; MOST_ROWS],
+    queue: &mut [u32; MOST_ROWS],
     count: usize,
     row: u32,
 ) -> usize {
@@ -156,10 +167,10 @@ fn bring(
 }
 
 // The rows of the queue bring in theirs, until none is left.
-fn close(table: &[u32], marks: &mut [bool; 4096], queue: &mut [u32; 4096], count: usize) {
+fn close(table: &[u32], marks: &mut [bool; MOST_ROWS], queue: &mut [u32; MOST_ROWS], count: usize) {
     let mut entered = count;
     let mut done = 0;
-    while done < 4096 && done < entered {
+    while done < MOST_ROWS && done < entered {
         let row = queue[done];
         entered = bring(table, marks, queue, entered, row);
         done += 1;
@@ -167,8 +178,8 @@ fn close(table: &[u32], marks: &mut [bool; 4096], queue: &mut [u32; 4096], count
 }
 
 // Row k, if it is marked.
-fn put_marked(out: &mut [u8], pen: Pen, marks: &[bool; 4096], k: usize) -> Pen {
-    if k < 4096 {
+fn put_marked(out: &mut [u8], pen: Pen, marks: &[bool; MOST_ROWS], k: usize) -> Pen {
+    if k < MOST_ROWS {
         if marks[k] {
             let p = put_byte(out, pen, b' ');
             return put_number(out, p, k as u64);
@@ -179,13 +190,13 @@ fn put_marked(out: &mut [u8], pen: Pen, marks: &[bool; 4096], k: usize) -> Pen {
 
 // The rows of the estate of a row, ascending, as a line.
 pub fn put_estate(table: &[u32], out: &mut [u8], pen: Pen, row: u32) -> Pen {
-    let mut marks = [false; 4096];
-    let mut queue = [0u32; 4096];
+    let mut marks = [false; MOST_ROWS];
+    let mut queue = [0u32; MOST_ROWS];
     let count = enter(&mut marks, &mut queue, 0, index(row));
     close(table, &mut marks, &mut queue, count);
     let mut p = put_text(out, pen, b"estate");
     let mut k = 0;
-    while k < 4096 {
+    while k < MOST_ROWS {
         p = put_marked(out, p, &marks, k);
         k += 1;
     }

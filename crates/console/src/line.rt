@@ -1,5 +1,6 @@
 // A line of the console's language, read byte by byte: whatever its length, what is kept of it has a fixed size.
 ghost use mathlib.Core.Path.{_≡_};
+ghost use Rattle.console.specs.Bytes.{blanked, counted, ended, fresh, isBlank, keeping, lettered, noted, released, saysNothing, spelled, stepped};
 ghost use Rattle.console.specs.Decimal.{withByte};
 
 // Where in a line the next byte stands: at its start, in a comment, in the blanks before the first word, in that word, in the blanks after
@@ -37,7 +38,9 @@ pub struct Line {
 }
 
 // A line of no bytes.
-pub fn empty() -> Line {
+pub fn empty() -> Line
+    ensures { λ r. ⌜ r ≡ fresh ⌝ }
+{
     Line {
         place: START,
         held: false,
@@ -49,13 +52,15 @@ pub fn empty() -> Line {
 }
 
 // One more byte of the first word.
-fn spell(mut line: Line, byte: u8) -> Line {
+fn spell(mut line: Line, byte: u8) -> Line
+    ensures { λ r. ⌜ r ≡ spelled line byte ⌝ }
+{
     line.place = WORD;
     if line.key < 72057594037927936 {
         line.key = line.key * 256 + byte as u64;
-    } else {
-        line.bad = true;
+        return line;
     }
+    line.bad = true;
     line
 }
 
@@ -83,44 +88,70 @@ fn with_byte(value: u32, byte: u8) -> Reading
 }
 
 // One more byte of a number.
-fn digit(mut line: Line, byte: u8) -> Line {
+fn digit(mut line: Line, byte: u8) -> Line
+    ensures { λ r. ⌜ r ≡ counted line byte ⌝ }
+{
     line.place = NUMBER;
     let reading = with_byte(line.value, byte);
     match reading {
-        Reading::Number(value) => line.value = value,
-        Reading::NoNumber => line.bad = true,
+        Reading::Number(value) => {
+            line.value = value;
+            line
+        }
+        Reading::NoNumber => {
+            line.bad = true;
+            line
+        }
     }
-    line
 }
 
 // The number that was being read is whole.
-fn keep(mut line: Line, numbers: &mut [u32; 17]) -> Line {
-    let at = line.count;
-    if at < 17 {
-        numbers[at] = line.value;
-        line.count = at + 1;
-    } else {
-        line.bad = true;
-    }
+fn keep(mut line: Line, numbers: &mut [u32; 17]) -> Line
+    ensures { λ r. ⌜ keeping r (now (numbers .exit)) ≡ noted (keeping line (now (numbers .entry))) ⌝ }
+{
+    let value = line.value;
     line.value = 0;
     line.place = GAP;
+    let at = line.count;
+    if at < 17 {
+        numbers[at] = value;
+        line.count = at + 1;
+        return line;
+    }
+    line.bad = true;
     line
+}
+
+// A space or a tabulator.
+fn is_blank(byte: u8) -> bool
+    ensures { λ r. ⌜ r ≡ isBlank byte ⌝ }
+{
+    byte == SPACE || byte == TAB
 }
 
 // A blank.
-fn blank(mut line: Line, numbers: &mut [u32; 17]) -> Line {
+fn blank(mut line: Line, numbers: &mut [u32; 17]) -> Line
+    ensures { λ r. ⌜ keeping r (now (numbers .exit)) ≡ blanked (keeping line (now (numbers .entry))) ⌝ }
+{
     let place = line.place;
     match place {
-        START => line.place = LEAD,
-        WORD => line.place = GAP,
-        NUMBER => return keep(line, numbers),
-        _ => {}
+        START => {
+            line.place = LEAD;
+            line
+        }
+        WORD => {
+            line.place = GAP;
+            line
+        }
+        NUMBER => keep(line, numbers),
+        _ => line,
     }
-    line
 }
 
 // A byte that is no blank.
-fn letter(mut line: Line, byte: u8) -> Line {
+fn letter(mut line: Line, byte: u8) -> Line
+    ensures { λ r. ⌜ r ≡ lettered line byte ⌝ }
+{
     let place = line.place;
     match place {
         START => {
@@ -136,25 +167,37 @@ fn letter(mut line: Line, byte: u8) -> Line {
     }
 }
 
-// One more byte of a line, no line feed.
-pub fn step(line: Line, numbers: &mut [u32; 17], byte: u8) -> Line {
-    let mut next = line;
-    if next.held {
-        next = letter(next, RETURN);
+// A carriage return that was held belongs to the line, now that something comes after it.
+fn release(line: Line) -> Line
+    ensures { λ r. ⌜ r ≡ released line ⌝ }
+{
+    if line.held {
+        let mut next = letter(line, RETURN);
         next.held = false;
+        return next;
     }
+    line
+}
+
+// One more byte of a line, no line feed.
+pub fn step(line: Line, numbers: &mut [u32; 17], byte: u8) -> Line
+    ensures { λ r. ⌜ keeping r (now (numbers .exit)) ≡ stepped (keeping line (now (numbers .entry))) byte ⌝ }
+{
+    let mut next = release(line);
     if byte == RETURN {
         next.held = true;
         return next;
     }
-    if byte == SPACE || byte == TAB {
+    if is_blank(byte) {
         return blank(next, numbers);
     }
     letter(next, byte)
 }
 
 // The line is whole: a number at its end is kept.
-pub fn whole(line: Line, numbers: &mut [u32; 17]) -> Line {
+pub fn whole(line: Line, numbers: &mut [u32; 17]) -> Line
+    ensures { λ r. ⌜ keeping r (now (numbers .exit)) ≡ ended (keeping line (now (numbers .entry))) ⌝ }
+{
     if line.place == NUMBER {
         return keep(line, numbers);
     }
@@ -162,6 +205,8 @@ pub fn whole(line: Line, numbers: &mut [u32; 17]) -> Line {
 }
 
 // A line of blanks, or a comment.
-pub fn says_nothing(line: Line) -> bool {
+pub fn says_nothing(line: Line) -> bool
+    ensures { λ r. ⌜ r ≡ saysNothing line ⌝ }
+{
     line.place < WORD
 }

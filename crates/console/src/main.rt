@@ -1,5 +1,6 @@
 // The console: tables and requests as lines of text, from standard input to standard output.
-mod command; // command.rt: what a line asks for
+mod asking; // asking.rt: what a line asks for
+mod command; // command.rt: that it is done
 mod line; // line.rt: a line, read byte by byte
 mod output; // output.rt: text that is written
 mod estate; // estate.rt: a tenant's estate

@@ -1,5 +1,8 @@
 // Text that is written: collected in a lent buffer, and handed on when that is full and at the end of each turn.
 use libc::STDOUT_FILENO;
+ghost use mathlib.Core.Path.{_≡_};
+ghost use mathlib.Core.List.{[], _∷_};
+ghost use Rattle.console.specs.Writing.{HandsOn, HasRoom, Writes, decimal, spaced};
 
 // How many bytes the buffer holds, and whether a write failed.
 pub struct Pen {
@@ -8,7 +11,9 @@ pub struct Pen {
 }
 
 // Hands on what the buffer holds.
-pub fn flush(out: &[u8], pen: Pen) -> Pen {
+pub fn flush(out: &[u8], pen: Pen) -> Pen
+    ensures { λ r. ⌜ HandsOn (now (out .entry)) pen r ⌝ }
+{
     let at = pen.at;
     if at <= out.len() {
         let written = io::write_all(STDOUT_FILENO, &out[..at]);
@@ -20,22 +25,36 @@ pub fn flush(out: &[u8], pen: Pen) -> Pen {
     Pen { at: 0, lost: true }
 }
 
-// A byte.
-pub fn put_byte(out: &mut [u8], pen: Pen, byte: u8) -> Pen {
-    let mut room = pen;
-    if out.len() <= room.at {
-        room = flush(out, room);
+// The pen with room for a byte: a full buffer is handed on first.
+fn with_room(out: &[u8], pen: Pen) -> Pen
+    ensures { λ r. ⌜ HasRoom (now (out .entry)) pen r ⌝ }
+{
+    if pen.at < out.len() {
+        return pen;
     }
-    let at = room.at;
+    flush(out, pen)
+}
+
+// A byte.
+pub fn put_byte(out: &mut [u8], pen: Pen, byte: u8) -> Pen
+    ensures { λ r. ⌜ Writes (now (out .entry)) pen (byte ∷ []) (now (out .exit)) r ⌝ }
+{
+    let ready = with_room(out, pen);
+    let at = ready.at;
     if at < out.len() {
         out[at] = byte;
-        room.at = at + 1;
+        return Pen {
+            at: at + 1,
+            lost: ready.lost,
+        };
     }
-    room
+    ready
 }
 
 // The bytes of a text.
-pub fn put_text(out: &mut [u8], pen: Pen, text: &[u8]) -> Pen {
+pub fn put_text(out: &mut [u8], pen: Pen, text: &[u8]) -> Pen
+    ensures { λ r. ⌜ Writes (now (out .entry)) pen (now (text .entry)) (now (out .exit)) r ⌝ }
+{
     let mut p = pen;
     let mut i = 0;
     while i < text.len() {
@@ -46,19 +65,25 @@ pub fn put_text(out: &mut [u8], pen: Pen, text: &[u8]) -> Pen {
 }
 
 // A word as a number of 64 bits.
-fn wide(word: u32) -> u64 {
+fn wide(word: u32) -> u64
+    ensures { λ r. ⌜ r ≡ word ⌝ }
+{
     word as u64
 }
 
 // A number in decimal.
-pub fn put_number(out: &mut [u8], pen: Pen, n: u64) -> Pen {
+pub fn put_number(out: &mut [u8], pen: Pen, n: u64) -> Pen
+    ensures { λ r. ⌜ Writes (now (out .entry)) pen (decimal n) (now (out .exit)) r ⌝ }
+{
     let mut digits = [0u8; 20];
     let k = io::decimal(n, &mut digits);
     put_text(out, pen, &digits[..k])
 }
 
 // Numbers, with a space before each.
-pub fn put_numbers(out: &mut [u8], pen: Pen, numbers: &[u32]) -> Pen {
+pub fn put_numbers(out: &mut [u8], pen: Pen, numbers: &[u32]) -> Pen
+    ensures { λ r. ⌜ Writes (now (out .entry)) pen (spaced (now (numbers .entry))) (now (out .exit)) r ⌝ }
+{
     let mut p = pen;
     let mut i = 0;
     while i < numbers.len() {

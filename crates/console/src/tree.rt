@@ -10,9 +10,15 @@ use model::NOTIFICATION;
 use model::Row;
 use model::TCB;
 use model::UNTYPED;
+ghost use mathlib.Core.Path.{_≡_};
+ghost use mathlib.Core.List.{_++_};
+ghost use Rattle.console.specs.Drawn.{badgeText, bytesText, capText, detailsText, drawnRow, indent, kindText, named, nextRow, rightsName, rightsText, treeText};
+ghost use Rattle.console.specs.Writing.{Writes, ascii, decimal};
 
 // The row after a row in the list; a row out of the table is its own.
-pub fn next_row(table: &[u32], row: u32) -> u32 {
+pub fn next_row(table: &[u32], row: u32) -> u32
+    ensures { λ r. ⌜ r ≡ nextRow (now (table .entry)) row ⌝ }
+{
     let end = row as usize * 8 + 8;
     if end <= table.len() {
         return table::word(table, Row(row), 5);
@@ -21,7 +27,9 @@ pub fn next_row(table: &[u32], row: u32) -> u32 {
 }
 
 // Two spaces for each depth.
-fn put_indent(out: &mut [u8], pen: Pen, depth: u32) -> Pen {
+fn put_indent(out: &mut [u8], pen: Pen, depth: u32) -> Pen
+    ensures { λ r. ⌜ Writes (now (out .entry)) pen (indent depth) (now (out .exit)) r ⌝ }
+{
     let mut p = pen;
     let mut left = depth;
     while 0 < left {
@@ -32,13 +40,17 @@ fn put_indent(out: &mut [u8], pen: Pen, depth: u32) -> Pen {
 }
 
 // A name and a number.
-fn put_named(out: &mut [u8], pen: Pen, name: &[u8], n: u32) -> Pen {
+fn put_named(out: &mut [u8], pen: Pen, name: &[u8], n: u32) -> Pen
+    ensures { λ r. ⌜ Writes (now (out .entry)) pen (now (name .entry) ++ decimal n) (now (out .exit)) r ⌝ }
+{
     let p = put_text(out, pen, name);
     put_number(out, p, n as u64)
 }
 
 // The name of a kind.
-fn put_kind(out: &mut [u8], pen: Pen, kind: u32) -> Pen {
+fn put_kind(out: &mut [u8], pen: Pen, kind: u32) -> Pen
+    ensures { λ r. ⌜ Writes (now (out .entry)) pen (kindText kind) (now (out .exit)) r ⌝ }
+{
     match kind {
         UNTYPED => put_text(out, pen, b"Untyped"),
         TCB => put_text(out, pen, b"TCB"),
@@ -49,23 +61,34 @@ fn put_kind(out: &mut [u8], pen: Pen, kind: u32) -> Pen {
     }
 }
 
-// Rights: write 1, read 2, grant 4.
-fn put_rights(out: &mut [u8], pen: Pen, rights: u32) -> Pen {
-    let p = put_text(out, pen, b" rights ");
+// The name of rights: write 1, read 2, grant 4.
+fn put_rights_name(out: &mut [u8], pen: Pen, rights: u32) -> Pen
+    ensures { λ r. ⌜ Writes (now (out .entry)) pen (rightsName rights) (now (out .exit)) r ⌝ }
+{
     match rights {
-        0 => put_text(out, p, b"none"),
-        1 => put_text(out, p, b"write"),
-        2 => put_text(out, p, b"read"),
-        3 => put_text(out, p, b"write+read"),
-        4 => put_text(out, p, b"grant"),
-        5 => put_text(out, p, b"write+grant"),
-        6 => put_text(out, p, b"read+grant"),
-        _ => put_text(out, p, b"write+read+grant"),
+        0 => put_text(out, pen, b"none"),
+        1 => put_text(out, pen, b"write"),
+        2 => put_text(out, pen, b"read"),
+        3 => put_text(out, pen, b"write+read"),
+        4 => put_text(out, pen, b"grant"),
+        5 => put_text(out, pen, b"write+grant"),
+        6 => put_text(out, pen, b"read+grant"),
+        _ => put_text(out, pen, b"write+read+grant"),
     }
 }
 
+// Rights.
+fn put_rights(out: &mut [u8], pen: Pen, rights: u32) -> Pen
+    ensures { λ r. ⌜ Writes (now (out .entry)) pen (rightsText rights) (now (out .exit)) r ⌝ }
+{
+    let p = put_text(out, pen, b" rights ");
+    put_rights_name(out, p, rights)
+}
+
 // The bytes of an Untyped, from its size.
-fn put_bytes(out: &mut [u8], pen: Pen, size: u32) -> Pen {
+fn put_bytes(out: &mut [u8], pen: Pen, size: u32) -> Pen
+    ensures { λ r. ⌜ Writes (now (out .entry)) pen (bytesText size) (now (out .exit)) r ⌝ }
+{
     let p = put_text(out, pen, b" bytes ");
     if size < 64 {
         return put_number(out, p, table::size::pow2(size));
@@ -73,8 +96,18 @@ fn put_bytes(out: &mut [u8], pen: Pen, size: u32) -> Pen {
     p
 }
 
+// The badge and the rights of an Endpoint or a Notification.
+fn put_badge(out: &mut [u8], pen: Pen, cap: Cap) -> Pen
+    ensures { λ r. ⌜ Writes (now (out .entry)) pen (badgeText cap) (now (out .exit)) r ⌝ }
+{
+    let p = put_named(out, pen, b" badge ", cap.third);
+    put_rights(out, p, cap.fourth)
+}
+
 // What a capability holds beside its kind and address.
-fn put_details(out: &mut [u8], pen: Pen, cap: Cap) -> Pen {
+fn put_details(out: &mut [u8], pen: Pen, cap: Cap) -> Pen
+    ensures { λ r. ⌜ Writes (now (out .entry)) pen (detailsText cap) (now (out .exit)) r ⌝ }
+{
     let kind = cap.kind;
     match kind {
         UNTYPED => {
@@ -82,10 +115,8 @@ fn put_details(out: &mut [u8], pen: Pen, cap: Cap) -> Pen {
             put_named(out, p, b" watermark ", cap.third)
         }
         TCB => pen,
-        ENDPOINT | NOTIFICATION => {
-            let p = put_named(out, pen, b" badge ", cap.third);
-            put_rights(out, p, cap.fourth)
-        }
+        ENDPOINT => put_badge(out, pen, cap),
+        NOTIFICATION => put_badge(out, pen, cap),
         CNODE => {
             let mut p = put_named(out, pen, b" radix ", cap.size);
             p = put_named(out, p, b" guard ", cap.third);
@@ -96,14 +127,18 @@ fn put_details(out: &mut [u8], pen: Pen, cap: Cap) -> Pen {
 }
 
 // The start of a row's line: its depth and its number.
-fn put_row(out: &mut [u8], pen: Pen, row: u32, depth: u32) -> Pen {
+fn put_row(out: &mut [u8], pen: Pen, row: u32, depth: u32) -> Pen
+    ensures { λ r. ⌜ Writes (now (out .entry)) pen (indent depth ++ named "row " row ++ ascii " ") (now (out .exit)) r ⌝ }
+{
     let mut p = put_indent(out, pen, depth);
     p = put_named(out, p, b"row ", row);
     put_byte(out, p, b' ')
 }
 
 // The rest of a row's line: its capability.
-fn put_cap(out: &mut [u8], pen: Pen, cap: Cap) -> Pen {
+fn put_cap(out: &mut [u8], pen: Pen, cap: Cap) -> Pen
+    ensures { λ r. ⌜ Writes (now (out .entry)) pen (capText cap) (now (out .exit)) r ⌝ }
+{
     let mut p = put_kind(out, pen, cap.kind);
     p = put_named(out, p, b" address ", cap.address.0);
     p = put_details(out, p, cap);
@@ -111,7 +146,9 @@ fn put_cap(out: &mut [u8], pen: Pen, cap: Cap) -> Pen {
 }
 
 // The line of a row of the table.
-fn draw_row(table: &[u32], out: &mut [u8], pen: Pen, row: u32) -> Pen {
+fn draw_row(table: &[u32], out: &mut [u8], pen: Pen, row: u32) -> Pen
+    ensures { λ r. ⌜ Writes (now (out .entry)) pen (drawnRow (now (table .entry)) row) (now (out .exit)) r ⌝ }
+{
     let end = row as usize * 8 + 8;
     if table.len() < end {
         return pen;
@@ -121,7 +158,9 @@ fn draw_row(table: &[u32], out: &mut [u8], pen: Pen, row: u32) -> Pen {
 }
 
 // A line for each of the listed rows, from the head on, and `end`.
-pub fn draw(table: &[u32], head: u32, count: u32, out: &mut [u8], pen: Pen) -> Pen {
+pub fn draw(table: &[u32], head: u32, count: u32, out: &mut [u8], pen: Pen) -> Pen
+    ensures { λ r. ⌜ Writes (now (out .entry)) pen (treeText (now (table .entry)) head count) (now (out .exit)) r ⌝ }
+{
     let mut p = pen;
     let mut row = head;
     let mut left = count;

@@ -1,13 +1,19 @@
--- The buffer keeps its length, and each turn shows the next row.
-use mathlib.Core.Path.{_≡_}
-use Prim.Native.Nat.{_-_}
+-- Each turn shows the next row.
+use mathlib.Core.Path.{_≡_, refl, _∙_}
+use Prim.Native.Nat.{_≤_, _-_, _/_}
+use native.Mathlib.Omega.{arith}
+use denote.Ref.{now}
 use lib.ListN.{length}
+use Rattle.console.specs.Writing.{Writes}
+use Rattle.console.specs.Show.{rowsText}
+use Rattle.console.proofs.Writing.{nothing, alike, _then_, keeps-length}
+use Rattle.console.proofs.Shown.{one-row-more, show-lines}
 use borrow.Author.Needs.{needs}
 use Rattle.console.proofs.show.show.Statement.{statement}
 use Rattle.console.proofs.show.show.Tie as tie
 
 abbrev Inv-loop : tie.InvT-loop
-Inv-loop table control out₀ p₀ rows k₀ t9 out p k = length out ≡ length out₀
+Inv-loop table control out₀ p₀ rows k₀ t9 out p k = (k ≤ rows) × (length out ≡ length out₀) × Writes out₀ p₀ (rowsText table k) out p
 
 abbrev μ-loop : tie.MeasureT-loop
 μ-loop table control out₀ p₀ rows k₀ t9 out p k = rows - k
@@ -25,7 +31,7 @@ put-byte-requires : tie.Need-put-byte-requires Inv-loop μ-loop
 put-byte-requires c κs = search needs
 
 loop-holds : tie.Need-loop-holds Inv-loop μ-loop
-loop-holds c = search needs
+loop-holds c = (omega arith, refl, nothing refl refl)
 
 show-row-requires : tie.Need-show-row-requires Inv-loop μ-loop
 show-row-requires c κs = search needs
@@ -37,7 +43,11 @@ loop-less : tie.Need-loop-less Inv-loop μ-loop
 loop-less c = search needs
 
 loop-again : tie.Need-loop-again Inv-loop μ-loop
-loop-again c = search needs
+loop-again c = (
+  omega arith,
+  keeps-length (c .before .before .show-row .ensures) ∙ c .before .before .before .before .before .loop .inv .1,
+  alike (one-row-more (now (c .before .before .before .before .before .before .before .before .before .before .before .before .before .before .before .before .before .before .before .before .before .before .args .table)) (c .before .before .before .before .before .loop .k)) (c .before .before .before .before .before .loop .inv .2 then c .before .before .show-row .ensures),
+)
 
 slice-aggregate-put-text-2 : tie.Need-slice-aggregate-put-text-2 Inv-loop μ-loop
 slice-aggregate-put-text-2 c = search needs
@@ -49,7 +59,8 @@ same-length : tie.Need-same-length Inv-loop μ-loop
 same-length c = search needs
 
 returns : tie.Need-returns Inv-loop μ-loop
-returns c = search needs
+returns c = let all : c .before .before .before .before .before .before .loop .k ≡ length (now (c .before .before .before .before .before .before .before .before .before .before .before .before .before .before .before .before .before .before .before .before .before .before .before .args .table)) / 8 = omega arith in
+    alike (show-lines _ _ _ all) (c .before .before .before .before .before .before .before .before .before .before .before .before .before .before .before .before .before .before .put-text .ensures then c .before .before .before .before .before .before .before .before .before .before .before .before .before .put-numbers .ensures then c .before .before .before .before .before .before .before .before .before .put-byte .ensures then c .before .before .before .before .before .before .loop .inv .2 then c .before .before .put-text2 .ensures)
 
 pub show-spec : {M : Type 1} → statement M
 show-spec =
