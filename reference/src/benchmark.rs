@@ -4,9 +4,9 @@ use std::io::{self, Write};
 use std::process::{Command, Stdio};
 use std::time::{Duration, Instant};
 
-/// The pairs of requests of one measurement, and the requests.
+/// The pairs of requests of one measurement of both programs, and of the console alone, which is faster.
 const PAIRS: usize = 1000;
-const ASKS: u32 = 2 * PAIRS as u32;
+const CONSOLE_PAIRS: usize = 20_000;
 
 /// How often each program is run on the same lines, in turn; the shortest time counts.
 const TURNS: usize = 3;
@@ -45,9 +45,9 @@ fn copies_endpoint(m: u32, r: u32) -> String {
 }
 
 /// What is made and deleted to compare the ways of Delete: a copy of an Endpoint; a second name of the boot CNode, which stays; the only name
-/// of a new CNode, with which its slots go.
+/// of a CNode from the largest Untyped, which has no other child.
 fn removals(m: u32, r: u32) -> [(&'static str, String); 3] {
-    let new_cnode = pair(r, &format!("ask 0 8 {} 4 1 0 0 0 {} 1", m - r - 5, last_slot(r)));
+    let new_cnode = pair(r, &format!("ask 0 8 {} 4 1 0 0 0 {} 1", m - r - 4, last_slot(r)));
     [("endpoint", copies_endpoint(m, r)), ("second-name-of-cnode", copies(r, 0)), ("only-name-of-cnode", new_cnode)]
 }
 
@@ -78,14 +78,9 @@ fn shortest(one: &[String], other: &[String], lines: &str) -> io::Result<(Durati
     Ok(best)
 }
 
-/// Microseconds for a request, from the time of the lines that make the tables and the time with the requests.
-fn each(idle: Duration, busy: Duration) -> f64 {
-    busy.saturating_sub(idle).as_secs_f64() * 1e6 / f64::from(ASKS)
-}
-
-/// The boot radix that is measured for an m.
-fn radix(m: u32) -> u32 {
-    8.min(m - 5)
+/// Microseconds for a request, from the time of the lines that make the tables and the time with so many pairs of requests.
+fn each(idle: Duration, busy: Duration, pairs: usize) -> f64 {
+    busy.saturating_sub(idle).as_secs_f64() * 1e6 / (2 * pairs) as f64
 }
 
 /// A line for each size and fill: the rows, the console's and this program's time for a request, and their ratio. Then, for the console alone, a
@@ -95,26 +90,26 @@ pub fn run(console: &[&str], out: &mut impl Write) -> io::Result<()> {
     let own = vec![std::env::current_exe()?.to_string_lossy().into_owned()];
     writeln!(out, "m rows fill console-us reference-us ratio")?;
     for m in 10..=16 {
-        let r = radix(m);
+        let r = 8.min(m - 5);
         for full in [false, true] {
             let start = tables(m, r, full);
             let lines = start.clone() + &copies_endpoint(m, r).repeat(PAIRS);
             let (idle, own_idle) = shortest(&console, &own, &start)?;
             let (busy, own_busy) = shortest(&console, &own, &lines)?;
-            let (theirs, ours) = (each(idle, busy), each(own_idle, own_busy));
+            let (theirs, ours) = (each(idle, busy, PAIRS), each(own_idle, own_busy, PAIRS));
             let fill = if full { "full" } else { "boot" };
             writeln!(out, "{} {} {} {:.2} {:.2} {:.3}", m, 1u32 << (m - 4), fill, theirs, ours, theirs / ours)?;
         }
     }
     writeln!(out, "m rows deleted console-us ratio")?;
     for m in [10, 13, 16] {
-        let r = radix(m);
+        let r = 8.min(m - 6);
         let start = tables(m, r, false);
         let mut first = None;
         for (name, pair) in removals(m, r) {
-            let lines = start.clone() + &pair.repeat(PAIRS);
+            let lines = start.clone() + &pair.repeat(CONSOLE_PAIRS);
             let (idle, busy) = (fastest(&console, &start)?, fastest(&console, &lines)?);
-            let time = each(idle, busy);
+            let time = each(idle, busy, CONSOLE_PAIRS);
             writeln!(out, "{} {} {} {:.2} {:.3}", m, 1u32 << (m - 4), name, time, time / *first.get_or_insert(time))?;
         }
     }
