@@ -1,7 +1,7 @@
 -- What a line does, put together from what is done step by step.
 use Prim.Native.Nat.{ℕ, _+_, _-_, _*_, _^_, _≤_, _<_}
 use mathlib.Core.Path.{_≡_, refl, sym, ap, _∙_}
-use mathlib.Core.Bool.{Bool, true, false, cond}
+use mathlib.Core.Bool.{Bool, true, false, cond, true≢false}
 use mathlib.Core.List.{List, [], _++_}
 use native.Mathlib.Omega.{arith}
 use native.Mathlib.Nat.{sub-zero}
@@ -202,7 +202,4 @@ module _ {line : Command} (s : Lending) (ns : List ℕ) (n : ℕ) {out out′ : 
 
   -- what it writes is not told
   pub obeyed-untold : {command : Command} → command ≡ line → isTold command ≡ false → s′ ≡ reply command s ns n .after → Obeys (isTold line) (reply line s ns n) out pen s′ out′ pen′
-  obeyed-untold e f a = rw (sym e) (record { after = a; said = λ t. absurd (never (sym t ∙ f)) })
-    where
-      never : true ≡ false → ⊥
-      never p = let z : _≡_ {A = ℕ} 0 1 = cc in omega arith
+  obeyed-untold e f a = rw (sym e) (record { after = a; said = λ t. absurd (true≢false (sym t ∙ f)) })

@@ -4,6 +4,7 @@ use mathlib.Core.Path.{_≡_, refl, sym, ap, _∙_}
 use mathlib.Core.Bool.{Bool, true, false, cond}
 use mathlib.Core.List.{List, [], _∷_, _++_, append-assoc, append-nil}
 use native.Mathlib.Omega.{arith}
+use native.Mathlib.Nat.{one-le-pow, zero-lt-suc}
 use native.Mathlib.Numerals.{add-one, unary-clauses}
 use lib.Dec.{ltb}
 use lib.ListN.{length, length-set, set, take, getD}
@@ -99,10 +100,6 @@ spaced-append (n ∷ a) b = rw (spaced-append a b) (simp append-assoc)
 pub spaced-more : (ns : List ℕ) (i : ℕ) → i < length ns → spaced (take i ns) ++ (ascii " " ++ decimal (getD ns i 0)) ≡ spaced (take (i + 1) ns)
 spaced-more ns i h = rw (add-one, take-suc ns i 0, spaced-append) (simp append-nil)
 
-power-pos : (j : ℕ) → 1 ≤ 10 ^ j
-power-pos zero = omega arith
-power-pos (suc j) = omega (arith, power-pos j)
-
 -- what `io` prints of one digit
 digit-printed : (n k : ℕ) → n < 10 → Fewest 10 1 n k → digits 10 k n ≡ (48 + n) ∷ []
 digit-printed n zero h f = absurd (omega (arith, f .0))
@@ -111,7 +108,7 @@ digit-printed n (suc zero) h f =
     rw (whole, lt-ltb n 10 h)
 digit-printed n (suc (suc j)) h f =
     let large : 10 ^ j * 10 ≤ n = simp unary-clauses at (f .2 (omega arith)) in
-    absurd (omega (arith, power-pos j))
+    absurd (omega (arith, one-le-pow j 10 (zero-lt-suc 9)))
 
 -- and of any number
 within-printed : (most n k : ℕ) → n ≤ most → Fewest 10 1 n k → digits 10 k n ≡ decimalWithin most n

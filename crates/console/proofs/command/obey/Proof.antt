@@ -13,6 +13,10 @@ use Rattle.console.proofs.command.obey.Tie as tie
 abbrev kept : tie.Start → Lending
 kept s = lending (now (s .args .table)) (now (s .args .control)) (s .args .desk .lent)
 
+-- where the function begins, from where it is known what the line asks for
+abbrev begun : tie.After-command-of → tie.Start
+begun k = k .before .before .before
+
 command-of-requires : tie.Need-command-of-requires
 command-of-requires c κs = search needs
 
@@ -103,8 +107,10 @@ bad-requires c κs = search needs
 returns : tie.Need-returns
 unfolding reply
 returns c =
-    let s = c .before .before .before .before .before in
-    let command = sym (c .enum-told .given .1) ∙ c .before .before .command-of .ensures in
+    let known = c in
+    let asked = known .before .before in
+    let s = begun asked in
+    let command = sym (known .enum-told .given .1) ∙ asked .command-of .ensures in
     obeyed (kept s) (now (s .args .numbers)) (s .args .line .count) command (record { after = refl; said = nothing refl refl })
 
 same-length : tie.Need-same-length
@@ -116,8 +122,10 @@ same-length-2 c = search needs
 returns-2 : tie.Need-returns-2
 unfolding reply
 returns-2 c =
-    let s = c .before .before .before .before .before .before .before .before .before .before .before .before .before .before .before in
-    let command = sym (c .before .before .before .before .before .before .before .before .before .before .enum-told2 .given .1) ∙ c .before .before .before .before .before .before .before .before .before .before .before .before .command-of .ensures in
+    let known = c .before .before .before .before .before .before .before .before .before .before in
+    let asked = known .before .before in
+    let s = begun asked in
+    let command = sym (known .enum-told2 .given .1) ∙ asked .command-of .ensures in
     obeyed (kept s) (now (s .args .numbers)) (s .args .line .count) command (c .before .before .before .before .boot .ensures)
 
 same-length-3 : tie.Need-same-length-3
@@ -129,8 +137,10 @@ same-length-4 c = search needs
 returns-3 : tie.Need-returns-3
 unfolding reply
 returns-3 c =
-    let s = c .before .before .before .before .before .before .before .before .before .before .before .before .before .before in
-    let command = sym (c .before .before .before .before .before .before .before .before .before .enum-told3 .given .1) ∙ c .before .before .before .before .before .before .before .before .before .before .before .command-of .ensures in
+    let known = c .before .before .before .before .before .before .before .before .before in
+    let asked = known .before .before in
+    let s = begun asked in
+    let command = sym (known .enum-told3 .given .1) ∙ asked .command-of .ensures in
     obeyed (kept s) (now (s .args .numbers)) (s .args .line .count) command (c .before .before .before .before .size .ensures)
 
 same-length-5 : tie.Need-same-length-5
@@ -139,8 +149,10 @@ same-length-5 c = search needs
 returns-4 : tie.Need-returns-4
 unfolding reply
 returns-4 c =
-    let s = c .before .before .before .before .before .before .before .before .before .before .before .before .before .before in
-    let command = sym (c .before .before .before .before .before .before .before .before .before .enum-told4 .given .1) ∙ c .before .before .before .before .before .before .before .before .before .before .before .command-of .ensures in
+    let known = c .before .before .before .before .before .before .before .before .before in
+    let asked = known .before .before in
+    let s = begun asked in
+    let command = sym (known .enum-told4 .given .1) ∙ asked .command-of .ensures in
     obeyed (kept s) (now (s .args .numbers)) (s .args .line .count) command (becomes (control-set _ _ _ _) (told (now (s .args .table)) _ (c .before .before .ok .ensures)))
 
 same-length-6 : tie.Need-same-length-6
@@ -152,8 +164,10 @@ same-length-7 c = search needs
 returns-5 : tie.Need-returns-5
 unfolding reply
 returns-5 c =
-    let s = c .before .before .before .before .before .before .before .before .before .before .before .before .before .before in
-    let command = sym (c .before .before .before .before .before .before .before .before .before .enum-told5 .given .1) ∙ c .before .before .before .before .before .before .before .before .before .before .before .command-of .ensures in
+    let known = c .before .before .before .before .before .before .before .before .before in
+    let asked = known .before .before in
+    let s = begun asked in
+    let command = sym (known .enum-told5 .given .1) ∙ asked .command-of .ensures in
     obeyed (kept s) (now (s .args .numbers)) (s .args .line .count) command (c .before .before .before .before .set-row .ensures _)
 
 same-length-8 : tie.Need-same-length-8
@@ -165,8 +179,10 @@ same-length-9 c = search needs
 returns-6 : tie.Need-returns-6
 unfolding reply
 returns-6 c =
-    let s = c .before .before .before .before .before .before .before .before .before .before .before .before .before .before in
-    let command = sym (c .before .before .before .before .before .before .before .before .before .enum-told6 .given .1) ∙ c .before .before .before .before .before .before .before .before .before .before .before .command-of .ensures in
+    let known = c .before .before .before .before .before .before .before .before .before in
+    let asked = known .before .before in
+    let s = begun asked in
+    let command = sym (known .enum-told6 .given .1) ∙ asked .command-of .ensures in
     obeyed (kept s) (now (s .args .numbers)) (s .args .line .count) command (c .before .before .before .before .ask .ensures)
 
 same-length-10 : tie.Need-same-length-10
@@ -178,8 +194,10 @@ same-length-11 c = search needs
 returns-7 : tie.Need-returns-7
 unfolding reply
 returns-7 c =
-    let s = c .before .before .before .before .before .before .before .before .before .before .before in
-    let command = sym (c .before .before .before .before .before .before .enum-told7 .given .1) ∙ c .before .before .before .before .before .before .before .before .command-of .ensures in
+    let known = c .before .before .before .before .before .before in
+    let asked = known .before .before in
+    let s = begun asked in
+    let command = sym (known .enum-told7 .given .1) ∙ asked .command-of .ensures in
     obeyed (kept s) (now (s .args .numbers)) (s .args .line .count) command (shown _ _ (c .before .before .show-lent .ensures))
 
 same-length-12 : tie.Need-same-length-12
@@ -191,8 +209,10 @@ same-length-13 c = search needs
 returns-8 : tie.Need-returns-8
 unfolding reply
 returns-8 c =
-    let s = c .before .before .before .before .before .before .before .before .before .before .before in
-    let command = sym (c .before .before .before .before .before .before .enum-told8 .given .1) ∙ c .before .before .before .before .before .before .before .before .command-of .ensures in
+    let known = c .before .before .before .before .before .before in
+    let asked = known .before .before in
+    let s = begun asked in
+    let command = sym (known .enum-told8 .given .1) ∙ asked .command-of .ensures in
     obeyed (kept s) (now (s .args .numbers)) (s .args .line .count) command (drawn _ _ (c .before .before .draw-lent .ensures))
 
 same-length-14 : tie.Need-same-length-14
@@ -204,8 +224,10 @@ same-length-15 c = search needs
 returns-9 : tie.Need-returns-9
 unfolding reply
 returns-9 c =
-    let s = c .before .before .before .before .before .before .before .before .before .before .before .before in
-    let command = sym (c .before .before .before .before .before .before .before .enum-told9 .given .1) ∙ c .before .before .before .before .before .before .before .before .before .command-of .ensures in
+    let known = c .before .before .before .before .before .before .before in
+    let asked = known .before .before in
+    let s = begun asked in
+    let command = sym (known .enum-told9 .given .1) ∙ asked .command-of .ensures in
     obeyed-untold (kept s) (now (s .args .numbers)) (s .args .line .count) command refl (ap (λ (n : ℕ). lending (now (s .args .table)) (now (s .args .control)) n) (c .before .before .estate-lent .ensures))
 
 same-length-16 : tie.Need-same-length-16
@@ -214,8 +236,10 @@ same-length-16 c = search needs
 returns-10 : tie.Need-returns-10
 unfolding reply
 returns-10 c =
-    let s = c .before .before .before .before .before .before .before .before .before in
-    let command = sym (c .before .before .before .before .enum-told10 .given .1) ∙ c .before .before .before .before .before .before .command-of .ensures in
+    let known = c .before .before .before .before in
+    let asked = known .before .before in
+    let s = begun asked in
+    let command = sym (known .enum-told10 .given .1) ∙ asked .command-of .ensures in
     obeyed (kept s) (now (s .args .numbers)) (s .args .line .count) command (told _ _ (c .before .before .bad .ensures))
 
 pub obey-spec : {M : Type 1} → statement M
