@@ -5,7 +5,7 @@ use mathlib.Core.Path.{refl, ◌∙◌}
 use native.Mathlib.Omega.{arith}
 use native.Mathlib.Nat.{mod-lt, div-add-mod'}
 use borrow.Author.Tests.{le-leb, lt-ltb, le-ltb, ltb-true, ltb-false}
-use Rattle.words.proofs.Booleans.{and_left, and_right, and_intro}
+use Rattle.model.proofs.Booleans.{and_left, and_right, and_intro}
 use Rattle.io.specs.Digits.{hex_digit_ascii}
 use Rattle.console.specs.Decimal.{is_digit, more, with_byte, value_from}
 use Rattle.console.specs.Writing.{decimal, decimal_within}

@@ -4,13 +4,12 @@ ghost use Rattle.model.specs.Edition.{edition32};
 ghost use Rattle.model.specs.Cap.{is_cnode};
 ghost use Rattle.model.specs.Tables as tables;
 ghost use Rattle.model.specs.Lookup as spec;
-ghost use Rattle.model.specs.Operations.{find};
+ghost use Rattle.model.specs.Operations.{slot_of};
 ghost use Rattle.model.specs.Request.{or_fault};
-ghost use Rattle.lookup.specs.Found.{of_found};
-ghost use Rattle.algorithms.specs.Ready.{Ready, Rooted};
+ghost use Rattle.lookup.specs.Finds.{Finds};
+ghost use Rattle.lookup.specs.Ready.{Ready, Usable};
 
-use model::{Answer, CNODE, Cap, Failure, Looked, Place, Row, Slot};
-use table::figures::WORD_BITS;
+use model::{Answer, CNODE, Cap, Failure, Looked, Place, Row};
 use table::size::pow2;
 use table::{cap_at, row_of};
 
@@ -34,14 +33,14 @@ fn guard_missed(node: Cap, address: u32, left: u32) -> bool
 
 // The slot that an address names, from a root. Only the low `depth` bits of the address count.
 pub fn lookup(t: &[u32], root: Cap, address: u32, depth: u32) -> Looked
-    requires fact_1 { Ready edition32 t.now }
-    requires fact_2 { Rooted edition32 t.now root }
+    requires fact_1 { Ready t.now }
+    requires fact_2 { (is_cnode root ≡ true → Usable t.now root) }
     ensures { result ≡ spec.lookup edition32 (tables.cap_of t.now) root address depth }
 {
     if root.kind != CNODE {
         return Looked::Failed(Failure::InvalidRoot);
     }
-    if depth < 1 || WORD_BITS < depth {
+    if depth < 1 || 32 < depth {
         return Looked::DepthOutOfRange;
     }
     let mut node = root;
@@ -67,7 +66,7 @@ pub fn lookup(t: &[u32], root: Cap, address: u32, depth: u32) -> Looked
         let row = first.0 + field(address, unguarded, node.size);
         let slot = Row(row);
         if left == taken {
-            return Looked::Found(Slot { row: slot });
+            return Looked::Slot(slot);
         }
         let rest = left - taken;
         let next = cap_at(t, slot);
@@ -82,42 +81,51 @@ pub fn lookup(t: &[u32], root: Cap, address: u32, depth: u32) -> Looked
     }
 }
 
+// The same, from the capability in a row.
+pub fn lookup_from(t: &[u32], row: Row, address: u32, depth: u32) -> Looked
+    requires fact_1 { Ready t.now }
+    requires fact_2 { row.0 * 8 + 8 ≤ length t.now }
+    ensures { result ≡ spec.lookup edition32 (tables.cap_of t.now) (tables.cap_of t.now row.0) address depth }
+{
+    lookup(t, cap_at(t, row), address, depth)
+}
+
 // What a place or a message word names: a row, or what the request is told.
 #[derive(Drop)]
 pub enum Found {
-    At(Slot),
+    At(Row),
     Refused(Answer),
 }
 
 // The row that a place names.
 pub fn find(t: &[u32], p: Place) -> Found
-    requires fact_1 { Ready edition32 t.now }
-    requires fact_2 { Rooted edition32 t.now p.root }
-    ensures { of_found result ≡ find edition32 (tables.cap_of t.now) p }
+    requires fact_1 { Ready t.now }
+    requires fact_2 { (is_cnode p.root ≡ true → Usable t.now p.root) }
+    ensures { Finds t.now (slot_of edition32 p.source (spec.lookup edition32 (tables.cap_of t.now) p.root p.index p.depth)) result }
 {
     let looked = lookup(t, p.root, p.index, p.depth);
     match looked {
-        Looked::Found(slot) => Found::At(slot),
+        Looked::Slot(row) => Found::At(row),
         Looked::Failed(failure) => Found::Refused(Answer::FailedLookup {
             source: p.source,
             failure,
         }),
         Looked::DepthOutOfRange => Found::Refused(Answer::RangeError {
             least: 1,
-            greatest: WORD_BITS,
+            greatest: 32,
         }),
     }
 }
 
 // The row that the address in message word `at` names, from a root and at full depth.
 pub fn named(t: &[u32], root: Cap, address: u32, at: u32) -> Found
-    requires fact_1 { Ready edition32 t.now }
-    requires fact_2 { Rooted edition32 t.now root }
-    ensures { of_found result ≡ or_fault at (spec.lookup edition32 (tables.cap_of t.now) root address 32) }
+    requires fact_1 { Ready t.now }
+    requires fact_2 { (is_cnode root ≡ true → Usable t.now root) }
+    ensures { Finds t.now (or_fault at (spec.lookup edition32 (tables.cap_of t.now) root address 32)) result }
 {
-    let looked = lookup(t, root, address, WORD_BITS);
+    let looked = lookup(t, root, address, 32);
     match looked {
-        Looked::Found(slot) => Found::At(slot),
+        Looked::Slot(row) => Found::At(row),
         Looked::Failed(failure) => Found::Refused(Answer::CapFault { word: at, failure }),
         Looked::DepthOutOfRange => Found::Refused(Answer::CapFault {
             word: at,

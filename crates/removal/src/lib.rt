@@ -7,7 +7,7 @@ ghost use Rattle.std.specs.Prelude.{◌≡◌, true, ◌+◌, ◌*◌, ◌≤◌
 ghost use Rattle.model.specs.Edition.{edition32};
 ghost use Rattle.model.specs.Tables.{lent};
 ghost use Rattle.model.specs.Rules.{well_formed};
-ghost use Rattle.algorithms.specs.Removing as removing;
+ghost use Rattle.removal.specs.Removing as removing;
 
 use following::{count_names, mark_descendants, mark_row, spread};
 use model::{EMPTY, Row};
@@ -20,7 +20,7 @@ use table::word;
 pub fn delete(t: &mut [u32], control: &mut [u32; 4], row: Row) -> u32
     requires control_value { well_formed edition32 (lent t.old control.old) ≡ true }
     requires row_in_bounds { row.0 * 8 + 8 ≤ length t.old }
-    ensures { removing.Removes edition32 (lent t.old control.old) (lent t.new control.new) (removing.target edition32 (lent t.old control.old) row.0) result }
+    ensures { removing.Removes (lent t.old control.old) (lent t.new control.new) (removing.target (lent t.old control.old) row.0) result }
 {
     if word(t, row, 0) == EMPTY {
         return 0;
@@ -42,7 +42,7 @@ pub fn delete(t: &mut [u32], control: &mut [u32; 4], row: Row) -> u32
 pub fn revoke(t: &mut [u32], control: &mut [u32; 4], row: Row) -> u32
     requires control_value { well_formed edition32 (lent t.old control.old) ≡ true }
     requires row_in_bounds { row.0 * 8 + 8 ≤ length t.old }
-    ensures { removing.Removes edition32 (lent t.old control.old) (lent t.new control.new) (removing.offspring edition32 (lent t.old control.old) row.0) result }
+    ensures { removing.Removes (lent t.old control.old) (lent t.new control.new) (removing.offspring (lent t.old control.old) row.0) result }
 {
     let mut mark = [0u32; MOST_ROWS];
     let mut counts = [0u32; MOST_ROWS];

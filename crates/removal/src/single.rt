@@ -3,8 +3,8 @@ ghost use Rattle.std.specs.Prelude.{◌≡◌, true, cond, ◌+◌, ◌<◌, ◌
 ghost use Rattle.model.specs.Edition.{edition32, most_rows};
 ghost use Rattle.model.specs.Tables.{cap_of, lent};
 ghost use Rattle.model.specs.Rules.{well_formed};
-ghost use Rattle.algorithms.specs.Marking as marking;
-ghost use Rattle.algorithms.specs.Removing as removing;
+ghost use Rattle.removal.specs.Marking as marking;
+ghost use Rattle.removal.specs.Removing as removing;
 
 use model::{CNODE, NONE, Row};
 use table::caps::same_object;
@@ -14,7 +14,7 @@ use table::{cap_at, word};
 // A row of the table, another than the given one, names what that one names.
 fn also_names(t: &[u32], row: u32, other: u32) -> bool
     requires row_bound { row < marking.row_count t.now }
-    requires t_bound { marking.row_count t.now ≤ (most_rows edition32) }
+    requires t_bound { marking.row_count t.now ≤ most_rows }
     ensures { result ≡ removing.also_names (cap_of t.now) (marking.row_count t.now) row other }
 {
     let rows = (t.len() / 8) as u32;
@@ -30,7 +30,7 @@ fn also_names(t: &[u32], row: u32, other: u32) -> bool
 // Another row names the object that a row names. A copy stands beside its source in the list, so the rows beside are asked first.
 fn named_elsewhere(t: &[u32], row: u32) -> bool
     requires row_bound { row < marking.row_count t.now }
-    requires t_bound { marking.row_count t.now ≤ (most_rows edition32) }
+    requires t_bound { marking.row_count t.now ≤ most_rows }
     ensures { result ≡ removing.named_elsewhere (cap_of t.now) (marking.row_count t.now) row }
 {
     if also_names(t, row, word(t, Row(row), 6)) {
@@ -53,7 +53,7 @@ fn named_elsewhere(t: &[u32], row: u32) -> bool
 // Nothing follows a row that names no CNode, or a CNode that another row names too.
 pub fn goes_alone(t: &[u32], row: u32) -> bool
     requires row_bound { row < marking.row_count t.now }
-    requires t_bound { marking.row_count t.now ≤ (most_rows edition32) }
+    requires t_bound { marking.row_count t.now ≤ most_rows }
     ensures { result ≡ removing.goes_alone (cap_of t.now) (marking.row_count t.now) row }
 {
     word(t, Row(row), 0) != CNODE || named_elsewhere(t, row)
@@ -62,8 +62,8 @@ pub fn goes_alone(t: &[u32], row: u32) -> bool
 // What is below a row goes one up: the rows after it that are deeper.
 fn raise_descendants(t: &mut [u32], control: &[u32; 4], row: u32)
     requires control_value { well_formed edition32 (lent t.old control.now) ≡ true }
-    requires row_value { removing.occupied edition32 (lent t.old control.now) row ≡ true }
-    ensures { removing.Raises edition32 (lent t.old control.now) row t.new }
+    requires row_value { removing.occupied (lent t.old control.now) row ≡ true }
+    ensures { removing.Raises (lent t.old control.now) row t.new }
 {
     let depth = word(t, Row(row), 7);
     let mut next = word(t, Row(row), 5);
@@ -96,8 +96,8 @@ fn head_without(last: u32, next: u32, head: u32) -> u32
 // One row goes, and what was below it hangs from its nearest ancestor.
 pub fn cut(t: &mut [u32], control: &mut [u32; 4], row: u32)
     requires control_value { well_formed edition32 (lent t.old control.old) ≡ true }
-    requires row_value { removing.occupied edition32 (lent t.old control.old) row ≡ true }
-    ensures { lent t.new control.new ≡ removing.without_row edition32 (lent t.old control.old) row }
+    requires row_value { removing.occupied (lent t.old control.old) row ≡ true }
+    ensures { lent t.new control.new ≡ removing.without_row (lent t.old control.old) row }
 {
     let last = word(t, Row(row), 6);
     let next = word(t, Row(row), 5);

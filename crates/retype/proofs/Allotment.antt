@@ -16,14 +16,14 @@ use Rattle.model.specs.Tables.{Tables, rows, word, cap_of, read, write}
 use Rattle.model.specs.Tree.{Forest, has_children, cap_at}
 use Rattle.model.specs.Operations.{any_taken, start, allot, allotted, align_up}
 use Rattle.model.specs.Request.{applied, carried_out}
-use Rattle.words.proofs.WellFormed.{roomy32, write_read}
-use Rattle.words.proofs.Caps.{caps_read}
-use Rattle.words.proofs.Descendants.{children_test}
-use Rattle.kept.proofs.Allowed.{untyped_filled}
-use Rattle.words.proofs.Held.{held_at, held_fits}
-use Rattle.words.proofs.Outcome.{comes_refused, comes_done}
-use Rattle.algorithms.proofs.Retype.Allotted.{write_allotted}
-use Rattle.words.specs.Children.{deeper_next}
+use Rattle.model.proofs.Words.WellFormed.{roomy32, write_read}
+use Rattle.model.proofs.Words.Caps.{caps_read}
+use Rattle.model.proofs.Words.Descendants.{children_test}
+use Rattle.model.proofs.Kept.Allowed.{untyped_filled}
+use Rattle.model.proofs.Words.Held.{held_at, held_fits}
+use Rattle.model.proofs.Outcome.{comes_refused, comes_done}
+use Rattle.model.proofs.Retype.Allotted.{write_allotted}
+use Rattle.table.specs.Children.{deeper_next}
 use Rattle.retype.specs.Allotting.{memory_for, Bounded, Vacant, allotting}
 use Rattle.retype.specs.Laid.{unit, laid_out, Layable}
 use Rattle.retype.specs.Window.{taken_by}

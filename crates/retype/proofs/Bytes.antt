@@ -12,7 +12,7 @@ use Rattle.model.specs.declared.Retyping.{Retyping}
 use Rattle.model.specs.Cap.{bytes, exponent}
 use Rattle.model.specs.Check.{passed, refused}
 use Rattle.model.specs.Operations.{align_up}
-use Rattle.algorithms.proofs.Retype.Alignment.{align_most}
+use Rattle.model.proofs.Retype.Alignment.{align_most}
 use Rattle.retype.specs.Allotting.{memory_for}
 use Rattle.retype.proofs.Tests.{stops, passes}
 

@@ -17,8 +17,8 @@ use Rattle.model.specs.Check.{Check, passed, refused, refuse, ◌>>=◌, ◌>>�
 use Rattle.model.specs.Operations.{slot_of}
 use Rattle.model.specs.Lookup.{lookup}
 use Rattle.model.specs.Tables.{cap_of}
-use Rattle.words.proofs.Booleans.{or_none}
-use Rattle.algorithms.specs.Ready.{Ready, Usable}
+use Rattle.model.proofs.Booleans.{or_none}
+use Rattle.lookup.specs.Ready.{Ready, Usable}
 use Rattle.retype.specs.Window.{node_by, window_in}
 
 never : {A : Type 0} (a : Answer) (x : A) → refused a ≡ passed x → ⊥
@@ -69,24 +69,24 @@ window_placed n q k e =
     }
 
 -- a CNode that a place names is usable
-pub node_usable : (t : List ℕ) (p : Place) (n : Cap) → Ready edition32 t → (is_cnode p.root ≡ true → Usable edition32 t p.root) → passed n ≡ node_by edition32 (cap_of t) p → is_cnode n ≡ true → Usable edition32 t n
+pub node_usable : (t : List ℕ) (p : Place) (n : Cap) → Ready t → (is_cnode p.root ≡ true → Usable t p.root) → passed n ≡ node_by edition32 (cap_of t) p → is_cnode n ≡ true → Usable t n
 unfolding node_by ◌>>=◌
 node_usable t p n ready usable e = go (eqb p.depth 0) e
   where
-    named : (s : Check ℕ) → passed n ≡ (s >>= λ k. passed (cap_of t k)) → is_cnode n ≡ true → Usable edition32 t n
+    named : (s : Check ℕ) → passed n ≡ (s >>= λ k. passed (cap_of t k)) → is_cnode n ≡ true → Usable t n
     named (passed k) h = let same : n ≡ cap_of t k = cc in rw same (ready.nodes k)
     named (refused a) h = absurd (never a n (sym h))
 
-    go : (b : Bool) → passed n ≡ elim b [ true ↦ passed p.root | false ↦ slot_of edition32 p.source (lookup edition32 (cap_of t) p.root p.index p.depth) >>= λ k. passed (cap_of t k) ] → is_cnode n ≡ true → Usable edition32 t n
+    go : (b : Bool) → passed n ≡ elim b [ true ↦ passed p.root | false ↦ slot_of edition32 p.source (lookup edition32 (cap_of t) p.root p.index p.depth) >>= λ k. passed (cap_of t k) ] → is_cnode n ≡ true → Usable t n
     go true h = let same : n ≡ p.root = cc in rw same usable
     go false h = named (slot_of edition32 p.source (lookup edition32 (cap_of t) p.root p.index p.depth)) h
 
 -- the slots of a CNode that is usable are few
-pub node_room : (t : List ℕ) (n : Cap) → Ready edition32 t → (is_cnode n ≡ true → Usable edition32 t n) → is_cnode n ≡ true → first_row edition32 n + slots n ≤ (most_rows edition32)
+pub node_room : (t : List ℕ) (n : Cap) → Ready t → (is_cnode n ≡ true → Usable t n) → is_cnode n ≡ true → first_row edition32 n + slots n ≤ most_rows
 node_room t n ready usable node = omega (arith, ready.small, (usable node).inside)
 
 -- the window lies in the table
-pub window_inside : (t : List ℕ) (n : Cap) (q : Retyping) (k : ℕ) → (is_cnode n ≡ true → Usable edition32 t n) → passed k ≡ window_in edition32 n q → (k + q.window) * 8 ≤ length t
+pub window_inside : (t : List ℕ) (n : Cap) (q : Retyping) (k : ℕ) → (is_cnode n ≡ true → Usable t n) → passed k ≡ window_in edition32 n q → (k + q.window) * 8 ≤ length t
 window_inside t n q k usable e =
     let w = window_placed n q k (sym e) in
     omega (arith, (usable w.node).inside, w.first, w.fits)

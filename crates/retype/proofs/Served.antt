@@ -13,16 +13,15 @@ use Rattle.model.specs.Tables.{Tables, cap_of, read}
 use Rattle.model.specs.Tree.{Forest, cap_at}
 use Rattle.model.specs.Operations.{start, allot, retype}
 use Rattle.model.specs.Request.{Outcome, carried_out}
-use Rattle.words.proofs.WellFormed.{roomy32}
-use Rattle.words.proofs.Caps.{caps_read}
-use Rattle.words.proofs.Outcome.{comes_refused, comes_same}
-use Rattle.algorithms.specs.Ready.{Ready, Usable}
-use Rattle.algorithms.proofs.Lookup.WellFormed.{ready}
+use Rattle.model.proofs.Words.WellFormed.{roomy32}
+use Rattle.model.proofs.Words.Caps.{caps_read}
+use Rattle.model.proofs.Outcome.{comes_refused, comes_same}
+use Rattle.lookup.specs.Ready.{Ready, Usable}
+use Rattle.lookup.proofs.WellFormed.{ready}
 use Rattle.retype.specs.Allotting.{Retypable, Vacant, allotting}
 use Rattle.retype.specs.Window.{Known, sized, window_in, taken_by, vacant_in, first_slot}
 use Rattle.retype.proofs.Passed.{through, bound, then_passed, same, window_placed, window_inside, node_usable}
 use Rattle.retype.proofs.Whole.{retype_by}
-use Rattle.words.proofs.Figures.{sane32}
 
 sized_known : (object size : ℕ) → sized edition32 object size ≡ passed tt → Known object size
 unfolding sized
@@ -32,8 +31,8 @@ sized_known object size e =
     record { listed = ltb-false 5 object a.0; small = ltb-false 30 size b.0 }
 
 module _ (t : Tables) (k : ℕ) (q : Retyping) (asked : Retypable t k q) where
-  pub tables_ready : Ready edition32 t.table
-  tables_ready = ready sane32 t asked.formed
+  pub tables_ready : Ready t.table
+  tables_ready = ready t asked.formed
 
   pub first_vacant : (first : ℕ) → passed first ≡ first_slot edition32 (cap_of t.table) q → Vacant t k q first
   unfolding first_slot vacant_in
@@ -44,7 +43,7 @@ module _ (t : Tables) (k : ℕ) (q : Retyping) (asked : Retypable t k q) where
       let d = through _ _ _ first c in
       let is : j ≡ first = same _ _ d.1 in
       let w : window_in edition32 n q ≡ passed first = window ∙ ap passed is in
-      let usable : (is_cnode n ≡ true → Usable edition32 t.table n) = node_usable t.table q.into n tables_ready asked.usable (sym node) in
+      let usable : (is_cnode n ≡ true → Usable t.table n) = node_usable t.table q.into n tables_ready asked.usable (sym node) in
       record {
         formed = asked.formed;
         untyped = asked.untyped;

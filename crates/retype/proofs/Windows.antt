@@ -12,7 +12,7 @@ use Rattle.model.specs.declared.Failure.TheVariants.{Missing}
 use Rattle.model.specs.declared.Retyping.{Retyping}
 use Rattle.model.specs.Cap.{is_cnode, first_row, slots}
 use Rattle.model.specs.Check.{passed, refused}
-use Rattle.words.proofs.Powers.{exponent_le}
+use Rattle.model.proofs.Kept.Powers.{exponent_le}
 use Rattle.retype.specs.Window.{window_in}
 use Rattle.retype.proofs.Tests.{stops, passes}
 
@@ -24,7 +24,7 @@ pub no_node : (E : Edition) (n : Cap) (q : Retyping) → (n.kind ≡ 5 → ⊥) 
 unfolding window_in is_cnode
 no_node E n q h = stops _ _ _ rw (ne_eqb n.kind 5 h)
 
-pub radix_small : (n : Cap) → (is_cnode n ≡ true → first_row edition32 n + slots n ≤ (most_rows edition32)) → n.kind ≡ 5 → n.size ≤ 12
+pub radix_small : (n : Cap) → (is_cnode n ≡ true → first_row edition32 n + slots n ≤ most_rows) → n.kind ≡ 5 → n.size ≤ 12
 unfolding slots
 radix_small n room node = exponent_le 12 n.size (omega (arith, room (node_kind n node)))
 

@@ -10,7 +10,7 @@ use Rattle.model.specs.Rules.{well_formed}
 use Rattle.model.specs.Tables.{Tables, cap_of}
 use Rattle.model.specs.Tree.{Forest, cap_at}
 use Rattle.model.specs.Operations.{Done, align_up, start, allot}
-use Rattle.algorithms.specs.Ready.{Usable}
+use Rattle.lookup.specs.Ready.{Usable}
 use Rattle.retype.specs.Window.{Known, taken_by}
 
 -- the byte of the Untyped u at which the window's objects begin, if the bytes from `from` on are enough
@@ -31,7 +31,7 @@ pub record Retypable (t : Tables) (k : ℕ) (q : Retyping) : Type 0 where
   pub formed : well_formed edition32 t ≡ true
   pub untyped : is_untyped (cap_of t.table k) ≡ true
   pub in_table : k * 8 + 8 ≤ length t.table
-  pub usable : is_cnode q.into.root ≡ true → Usable edition32 t.table q.into.root
+  pub usable : is_cnode q.into.root ≡ true → Usable t.table q.into.root
 
 -- tables that keep the rules, an Untyped in row k, and a window of empty rows of the table from `first` on
 pub record Vacant (t : Tables) (k : ℕ) (q : Retyping) (first : ℕ) : Type 0 where

@@ -26,7 +26,7 @@ pub record Room (t : List ℕ) (after : ℕ) (q : Retyping) (k address : ℕ) : 
   pub known : Known q.object q.size
   pub in_table : after * 8 + 8 ≤ length t
   pub rows : (k + q.window) * 8 ≤ length t
-  pub few : k + q.window ≤ (most_rows edition32)
+  pub few : k + q.window ≤ most_rows
   pub named : address + q.window * unit q ≤ 4294967296
 
 -- the tables after the window's objects are made from byte `at` of the Untyped in row k, whose watermark is then at their end
@@ -42,6 +42,6 @@ laid_out t k first at q =
 -- what making the window's objects asks: `Room`, and a depth, a count and a watermark that fit
 pub record Layable (t : Tables) (k first at : ℕ) (q : Retyping) : Type 0 where
   pub room : Room t.table k q first (word t.table k 1 + at)
-  pub depth : word t.table k 7 < (most_rows edition32)
-  pub count : get_or t.control 3 0 ≤ (most_rows edition32)
+  pub depth : word t.table k 7 < most_rows
+  pub count : get_or t.control 3 0 ≤ most_rows
   pub end : word t.table k 1 + at + q.window * unit q < 4294967296

@@ -1,7 +1,7 @@
 // The memory of an Untyped: the byte from which it is used, and whether it is enough.
 ghost use Rattle.std.specs.Prelude.{◌≡◌, cond, ◌+◌, ◌*◌, ◌≤◌, length};
 ghost use Rattle.model.specs.Edition.{edition32};
-ghost use Rattle.words.specs.Children.{deeper_next};
+ghost use Rattle.table.specs.Children.{deeper_next};
 ghost use Rattle.retype.specs.Allotting.{memory_for, Bounded};
 ghost use Rattle.retype.specs.Answers.{of_memory};
 

@@ -4,7 +4,7 @@ ghost use Rattle.model.specs.Edition.{edition32, most_rows};
 ghost use Rattle.model.specs.Cap as cap;
 ghost use Rattle.model.specs.Tables as tables;
 ghost use Rattle.lookup.specs.Finds.{of_found};
-ghost use Rattle.algorithms.specs.Ready.{Ready, Usable};
+ghost use Rattle.lookup.specs.Ready.{Ready, Usable};
 ghost use Rattle.retype.specs.Answers.{of_taker};
 ghost use Rattle.retype.specs.Window as tests;
 
@@ -23,8 +23,8 @@ pub enum Taker {
 
 // What a place names, at depth 0 its root itself.
 pub fn node(t: &[u32], p: Place) -> Taker
-    requires fact_1 { Ready edition32 t.now }
-    requires fact_2 { (cap.is_cnode p.root ≡ true → Usable edition32 t.now p.root) }
+    requires fact_1 { Ready t.now }
+    requires fact_2 { (cap.is_cnode p.root ≡ true → Usable t.now p.root) }
     ensures { of_taker result ≡ tests.node_by edition32 (tables.cap_of t.now) p }
 {
     if p.depth == 0 {
@@ -40,7 +40,7 @@ pub fn node(t: &[u32], p: Place) -> Taker
 
 // One of the n rows from the first is occupied.
 pub fn any_taken(t: &[u32], first: Row, n: u32) -> bool
-    requires fact_1 { Ready edition32 t.now }
+    requires fact_1 { Ready t.now }
     requires fact_2 { (first.0 + n) * 8 ≤ length t.now }
     ensures { result ≡ tests.taken_by (tables.cap_of t.now) first.0 n }
 {
@@ -58,7 +58,7 @@ pub fn any_taken(t: &[u32], first: Row, n: u32) -> bool
 
 // The first slot of the window in a node.
 pub fn window(n: Cap, q: Retyping) -> Found
-    requires { cap.is_cnode n ≡ true → cap.first_row edition32 n + cap.slots n ≤ (most_rows edition32) }
+    requires { cap.is_cnode n ≡ true → cap.first_row edition32 n + cap.slots n ≤ most_rows }
     ensures { of_found result ≡ tests.window_in edition32 n q }
 {
     if n.kind != CNODE {
@@ -96,8 +96,8 @@ pub fn window(n: Cap, q: Retyping) -> Found
 
 // The first slot of the window in a node, if all its slots are empty.
 pub fn vacant_window(t: &[u32], n: Cap, q: Retyping) -> Found
-    requires fact_1 { Ready edition32 t.now }
-    requires fact_2 { (cap.is_cnode n ≡ true → Usable edition32 t.now n) }
+    requires fact_1 { Ready t.now }
+    requires fact_2 { (cap.is_cnode n ≡ true → Usable t.now n) }
     ensures { of_found result ≡ tests.vacant_in edition32 (tables.cap_of t.now) n q }
 {
     let found = window(n, q);
@@ -114,8 +114,8 @@ pub fn vacant_window(t: &[u32], n: Cap, q: Retyping) -> Found
 
 // All tests but that of the memory, and the first slot of the window.
 pub fn first_slot(t: &[u32], q: Retyping) -> Found
-    requires fact_1 { Ready edition32 t.now }
-    requires fact_2 { (cap.is_cnode q.into.root ≡ true → Usable edition32 t.now q.into.root) }
+    requires fact_1 { Ready t.now }
+    requires fact_2 { (cap.is_cnode q.into.root ≡ true → Usable t.now q.into.root) }
     ensures { of_found result ≡ tests.first_slot edition32 (tables.cap_of t.now) q }
 {
     let judged = sized(q.object, q.size);

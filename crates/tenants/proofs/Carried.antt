@@ -12,10 +12,10 @@ use Rattle.model.specs.Tables.{State, Tables, read, write}
 use Rattle.model.specs.Rules.{well_formed}
 use Rattle.model.specs.Operations.{Done}
 use Rattle.model.specs.Request.{applied, carried_out, concluded, request, served}
-use Rattle.words.proofs.Figures.{Sane}
-use Rattle.kept.proofs.Serving.{served_good}
-use Rattle.words.proofs.ReadWrite.{read_write}
-use Rattle.words.proofs.WellFormed.{Roomy, good_fits, good_read}
+use Rattle.model.proofs.Kept.Figures.{Sane}
+use Rattle.model.proofs.Kept.Serving.{served_good}
+use Rattle.model.proofs.Words.ReadWrite.{read_write}
+use Rattle.model.proofs.Words.WellFormed.{Roomy, good_fits, good_read}
 
 module _ (E : Edition) (t : Tables) (wf : well_formed E t ≡ true) where
   abbrev pub f : Forest

@@ -1,4 +1,3 @@
-pub mod Argument
 pub mod Separation
 pub mod Smallest
 pub mod Memory

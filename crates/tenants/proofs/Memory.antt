@@ -14,14 +14,14 @@ use Rattle.model.specs.Tables.{Tables, cap_of, read}
 use Rattle.model.specs.Rules.{well_formed}
 use Rattle.model.specs.Request.{request}
 use Rattle.model.specs.Tenants.{tables_after}
-use Rattle.words.proofs.Booleans.{and_left, and_right}
-use Rattle.words.proofs.State.{Sound}
-use Rattle.words.proofs.Figures.{Sane, sane32}
-use Rattle.kept.proofs.Formed.{request_formed}
-use Rattle.kept.proofs.Memory.{typed_apart}
-use Rattle.kept.proofs.Rules.{entry_at}
-use Rattle.words.proofs.Caps.{caps_read}
-use Rattle.words.proofs.WellFormed.{Roomy, good_read, roomy32}
+use Rattle.model.proofs.Booleans.{and_left, and_right}
+use Rattle.model.proofs.State.{Sound}
+use Rattle.model.proofs.Kept.Figures.{Sane, sane32}
+use Rattle.model.proofs.Kept.Formed.{request_formed}
+use Rattle.model.proofs.Kept.Memory.{typed_apart}
+use Rattle.model.proofs.Kept.Rules.{entry_at}
+use Rattle.model.proofs.Words.Caps.{caps_read}
+use Rattle.model.proofs.Words.WellFormed.{Roomy, good_read, roomy32}
 use Rattle.tenants.specs.Memory.{LiveApart, StaysWellFormed, names_typed}
 
 typed_in : {E : Edition} {m : ℕ} {f : Forest} → Sound E m f → (j k : ℕ) → is_empty (cap_at f j) ≡ false → is_untyped (cap_at f j) ≡ false → is_empty (cap_at f k) ≡ false → is_untyped (cap_at f k) ≡ false

@@ -20,29 +20,28 @@ use Rattle.model.specs.Tables.{Tables, read}
 use Rattle.model.specs.Rules.{well_formed}
 use Rattle.model.specs.Operations.{Done, descendants, node, remove, retype}
 use Rattle.model.specs.Request.{applied, concluded, invokes, operation_of, perform, place, request, row_named, served, words_of}
-use Rattle.kept.proofs.Checks.{bind_on, go_on_lem}
-use Rattle.words.proofs.Figures.{Sane, sane32}
-use Rattle.kept.proofs.Formed.{request_formed}
-use Rattle.kept.proofs.Reuse.{one_untyped, retype_after_revoke, revoked_same}
-use Rattle.kept.proofs.Requests.{served_is}
-use Rattle.words.proofs.Caps.{caps_read}
-use Rattle.words.proofs.WellFormed.{Roomy, good_read, roomy32}
+use Rattle.model.proofs.Kept.Checks.{bind_on, go_on_lem}
+use Rattle.model.proofs.Kept.Figures.{Sane, sane32}
+use Rattle.model.proofs.Kept.Formed.{request_formed}
+use Rattle.model.proofs.Kept.Reuse.{one_untyped, retype_after_revoke, revoked_same}
+use Rattle.model.proofs.Words.Caps.{caps_read}
+use Rattle.model.proofs.Words.WellFormed.{Roomy, good_read, roomy32}
 use Rattle.tenants.specs.Memory.{FreedIsUsedAgain, Revokes}
 use Rattle.tenants.proofs.Carried.{answer_is, answered, read_after}
 use Rattle.tenants.proofs.Revoking.{found_from, revoked, revokes}
 
-retypes : (E : Edition) (g : Forest) (caller : ℕ) (message : List ℕ) (k root : ℕ) → row_named E (cap_at g) caller message 4 ≡ passed root → perform E g caller message k (operation_of 8)
+retypes : (E : Edition) (g : Forest) (caller : ℕ) (message : List ℕ) (k root : ℕ) → row_named E g caller message 4 ≡ passed root → perform E g caller message k (operation_of 8)
     ≡ retype E g k (record { object = get_or message 2 0; size = get_or message 3 0; into = place (cap_at g root) message 5 false; offset = get_or message 7 0; window = get_or message 8 0 })
 unfolding perform operation_of
 retypes E g caller message k root rooted = bind_on _ rooted
 
 -- a Retype of a whole Untyped comes to the operation
-asks_whole : (E : Edition) (g : Forest) (caller : ℕ) (message : List ℕ) (k size root : ℕ) → 9 ≤ length message → get_or message 0 0 ≡ 8 → row_named E (cap_at g) caller message 1 ≡ passed k
-    → is_empty (cap_at g k) ≡ false → is_untyped (cap_at g k) ≡ true → get_or message 2 0 ≡ 0 → get_or message 3 0 ≡ size → row_named E (cap_at g) caller message 4 ≡ passed root → get_or message 8 0 ≡ 1
+asks_whole : (E : Edition) (g : Forest) (caller : ℕ) (message : List ℕ) (k size root : ℕ) → 9 ≤ length message → get_or message 0 0 ≡ 8 → row_named E g caller message 1 ≡ passed k
+    → is_empty (cap_at g k) ≡ false → is_untyped (cap_at g k) ≡ true → get_or message 2 0 ≡ 0 → get_or message 3 0 ≡ size → row_named E g caller message 4 ≡ passed root → get_or message 8 0 ≡ 1
     → served E g caller message ≡ retype E g k (one_untyped size (place (cap_at g root) message 5 false) (get_or message 7 0))
+unfolding served
 asks_whole E g caller message k size root long operation service filled untyped object asked rooted window =
-    served_is E g caller message
-    ∙ go_on_lem TruncatedMessage _ (le-ltb (length message) 2 (omega arith))
+    go_on_lem TruncatedMessage _ (le-ltb (length message) 2 (omega arith))
     ∙ bind_on _ service
     ∙ go_on_lem InvalidCapability _ filled
     ∙ go_on_lem IllegalOperation _ judged
@@ -84,10 +83,10 @@ module _ {E : Edition} (law : Roomy E) (sane : Sane E) (t : Tables) (wf : well_f
   unfolding remove
   same_cap = subst (λ (g : Forest). is_empty (cap_at g k) ≡ false → cap_at g k ≡ cap_at f k) after (revoked_same (good_read E law t wf).sound k)
 
-  whole_again : is_untyped (cap_at f k) ≡ true → is_empty (cap_at g k) ≡ false → (into : Place) (n : Cap) → node E (cap_at g) into ≡ passed n → is_cnode n ≡ true → (offset : ℕ) → offset < slots n
+  whole_again : is_untyped (cap_at f k) ≡ true → is_empty (cap_at g k) ≡ false → (into : Place) (n : Cap) → node E g into ≡ passed n → is_cnode n ≡ true → (offset : ℕ) → offset < slots n
       → is_empty (cap_at g (first_row E n + offset)) ≡ true → (d : Done) × (retype E g k (one_untyped (cap_at f k).size into offset) ≡ passed d) × (d.count ≡ 1)
   whole_again untyped =
-      subst (λ (g : Forest). is_empty (cap_at g k) ≡ false → (into : Place) (n : Cap) → node E (cap_at g) into ≡ passed n → is_cnode n ≡ true → (offset : ℕ) → offset < slots n
+      subst (λ (g : Forest). is_empty (cap_at g k) ≡ false → (into : Place) (n : Cap) → node E g into ≡ passed n → is_cnode n ≡ true → (offset : ℕ) → offset < slots n
       → is_empty (cap_at g (first_row E n + offset)) ≡ true → (d : Done) × (retype E g k (one_untyped (cap_at f k).size into offset) ≡ passed d) × (d.count ≡ 1))
       after
       (retype_after_revoke sane (good_read E law t wf).m_range (good_read E law t wf).sound (place (cap_at f (found_from E t wf caller message k r).service) message 2 false) k

@@ -12,7 +12,6 @@ use Rattle.model.specs.declared.Answer.{Answer}
 use Rattle.model.specs.declared.Answer.TheVariants.{IllegalOperation, InvalidCapability, Success, TruncatedMessage}
 use Rattle.model.specs.declared.Cap.{Cap}
 use Rattle.model.specs.declared.Operation.{Operation}
-use Rattle.model.specs.declared.Start.TheVariants.{Descendants}
 use Rattle.model.specs.Lists.{member}
 use Rattle.model.specs.Edition.{Edition, edition32}
 use Rattle.model.specs.Cap.{is_empty}
@@ -21,20 +20,19 @@ use Rattle.model.specs.Check.{Check, passed, refuse, refused, ◌>>=◌, ◌>>�
 use Rattle.model.specs.Tables.{Tables, read}
 use Rattle.model.specs.Rules.{well_formed}
 use Rattle.model.specs.Removal.{removed}
-use Rattle.model.specs.Operations.{Done, descendants, find, remove, removing}
+use Rattle.model.specs.Operations.{Done, descendants, find, remove, revoke}
 use Rattle.model.specs.Request.{concluded, invokes, operation_of, perform, place, request, row_named, served, words_of}
-use Rattle.words.proofs.Booleans.{either}
-use Rattle.words.proofs.Members.{Has, has_member, keep_has, member_has}
-use Rattle.words.proofs.State.{Sound}
-use Rattle.kept.proofs.Checks.{bind_on}
-use Rattle.kept.proofs.Edits.{alive, entries_without}
-use Rattle.words.proofs.Figures.{Sane, sane32}
-use Rattle.kept.proofs.Formed.{request_formed}
-use Rattle.kept.proofs.Removal.{removed_start}
-use Rattle.kept.proofs.Rules.{entry_at, removed_sound}
-use Rattle.kept.proofs.Requests.{served_is}
-use Rattle.words.proofs.Caps.{caps_read}
-use Rattle.words.proofs.WellFormed.{Roomy, good_read, roomy32}
+use Rattle.model.proofs.Booleans.{either}
+use Rattle.model.proofs.Members.{Has, has_member, keep_has, member_has}
+use Rattle.model.proofs.State.{Sound}
+use Rattle.model.proofs.Kept.Checks.{bind_on}
+use Rattle.model.proofs.Kept.Edits.{alive, entries_without}
+use Rattle.model.proofs.Kept.Figures.{Sane, sane32}
+use Rattle.model.proofs.Kept.Formed.{request_formed}
+use Rattle.model.proofs.Kept.Removal.{removed_start}
+use Rattle.model.proofs.Kept.Rules.{entry_at, removed_sound}
+use Rattle.model.proofs.Words.Caps.{caps_read}
+use Rattle.model.proofs.Words.WellFormed.{Roomy, good_read, roomy32}
 use Rattle.tenants.specs.Memory.{RevokeClears, Revokes, target_of}
 use Rattle.tenants.proofs.Carried.{answer_is, answered, read_after}
 
@@ -79,13 +77,13 @@ module _ (E : Edition) (t : Tables) (wf : well_formed E t ≡ true) where
     -- the row of the service, and the target found from it
     pub record Found : Type 0 where
       pub service : ℕ
-      pub named : row_named E (cap_at f) caller message 1 ≡ passed service
-      pub found : find E (cap_at f) (place (cap_at f service) message 2 false) ≡ passed k
+      pub named : row_named E f caller message 1 ≡ passed service
+      pub found : find E f (place (cap_at f service) message 2 false) ≡ passed k
 
     pub found_from : Found
     unfolding target_of
     found_from =
-        let (s, e, h) = bound (row_named E (cap_at f) caller message 1) (λ j. find E (cap_at f) (place (cap_at f j) message 2 false)) k r.target in
+        let (s, e, h) = bound (row_named E f caller message 1) (λ j. find E f (place (cap_at f j) message 2 false)) k r.target in
         record { service = s; named = e; found = h }
 
     abbrev pub at : ℕ
@@ -99,10 +97,11 @@ module _ (E : Edition) (t : Tables) (wf : well_formed E t ≡ true) where
         >> (refuse InvalidCapability (is_empty (cap_at f at))
         >> (refuse IllegalOperation (not (invokes (cap_at f at) operation))
         >> (refuse TruncatedMessage (ltb (length message) (words_of operation)) >> perform E f caller message at operation))))
-    tested = served_is E f caller message ∙ ap (λ (c : Check Done). refuse TruncatedMessage (ltb (length message) 2) >> c) (bind_on _ found_from.named)
+    unfolding served
+    tested = ap (λ (c : Check Done). refuse TruncatedMessage (ltb (length message) 2) >> c) (bind_on _ found_from.named)
 
     performed : perform E f caller message at operation ≡ passed (remove E f (descendants f k))
-    unfolding perform operation_of removing
+    unfolding perform operation_of revoke
     performed = ap (λ n. perform E f caller message at (operation_of n)) r.operation ∙ bind_on (λ j. passed (remove E f (descendants f j))) found_from.found
 
     pub revokes : served E f caller message ≡ passed (remove E f (descendants f k))
@@ -113,8 +112,8 @@ module _ (E : Edition) (t : Tables) (wf : well_formed E t ≡ true) where
         ∙ performed
 
     -- what a Revoke's place asks of the definition
-    pub revoked : removing E f Descendants (place (cap_at f at) message 2 false) ≡ passed (remove E f (descendants f k))
-    unfolding removing
+    pub revoked : revoke E f (place (cap_at f at) message 2 false) ≡ passed (remove E f (descendants f k))
+    unfolding revoke
     revoked = bind_on (λ j. passed (remove E f (descendants f j))) found_from.found
 
 -- ---- none of the descendants is left

@@ -15,12 +15,12 @@ use Rattle.model.specs.Tree.{cap_at}
 use Rattle.model.specs.Tables.{Tables, cap_of, read}
 use Rattle.model.specs.Rules.{well_formed}
 use Rattle.model.specs.Tenants.{Merge, Sent, by, estate_in, left, none, right, sends, tables_after, told_on}
-use Rattle.words.proofs.Members.{All, Has, all_from, all_has, has_member, member_has}
-use Rattle.words.proofs.Figures.{Sane, sane32}
-use Rattle.tenants.proofs.Argument.OnTables.{caps_alone, separation, tables_in_turn, told_alone}
-use Rattle.tenants.proofs.Argument.Two.{differ}
-use Rattle.words.proofs.Caps.{caps_read}
-use Rattle.words.proofs.WellFormed.{Roomy, good_read, roomy32}
+use Rattle.model.proofs.Members.{All, Has, all_from, all_has, has_member, member_has}
+use Rattle.model.proofs.Kept.Figures.{Sane, sane32}
+use Rattle.model.proofs.Separation.OnTables.{caps_alone, separation, tables_in_turn, told_alone}
+use Rattle.model.proofs.Separation.Two.{differ}
+use Rattle.model.proofs.Words.Caps.{caps_read}
+use Rattle.model.proofs.Words.WellFormed.{Roomy, good_read, roomy32}
 use Rattle.tenants.specs.Separation.{Separation, SeparationOfAll}
 
 -- ---- merges

@@ -9,9 +9,9 @@ use Rattle.model.specs.Tree.{Entry}
 use Rattle.model.specs.Tables.{Tables, read, rows}
 use Rattle.model.specs.Removal.{removed}
 use Rattle.model.specs.Tenants.{estate_in}
-use Rattle.words.proofs.Members.{has_member, member_has}
-use Rattle.kept.proofs.Removal.{removed_least, removed_start, removed_swept}
-use Rattle.tenants.proofs.Argument.Estates.{estate_brings, estate_least, estate_root}
+use Rattle.model.proofs.Members.{has_member, member_has}
+use Rattle.model.proofs.Kept.Removal.{removed_least, removed_start, removed_swept}
+use Rattle.model.proofs.Separation.Estates.{estate_brings, estate_least, estate_root}
 use Rattle.tenants.specs.Smallest.{SmallestEstate, SmallestRemoval}
 
 pub smallest_estate : (E : Edition) (t : Tables) (root : ℕ) → root < rows E (read E t).m → SmallestEstate E t root

@@ -35,8 +35,8 @@ LiveApart E =
 -- the row that a Delete or a Revoke names
 unfoldable pub target_of : Edition → Tables → (caller : ℕ) → (message : List ℕ) → Check ℕ
 target_of E t caller message = do
-  service ← row_named E (cap_at (read E t).forest) caller message 1
-  find E (cap_at (read E t).forest) (place (cap_at (read E t).forest service) message 2 false)
+  service ← row_named E (read E t).forest caller message 1
+  find E (read E t).forest (place (cap_at (read E t).forest service) message 2 false)
 
 -- a request is a Revoke of row k, and succeeds
 pub record Revokes (E : Edition) (t : Tables) (caller : ℕ) (message : List ℕ) (k : ℕ) : Type 0 where
@@ -57,13 +57,13 @@ RevokeClears E =
 pub record RetypesWhole (E : Edition) (t : Tables) (caller : ℕ) (message : List ℕ) (k size : ℕ) : Type 0 where
   pub long : 9 ≤ length message
   pub operation : get_or message 0 0 ≡ 8
-  pub service : row_named E (cap_at (read E t).forest) caller message 1 ≡ passed k
+  pub service : row_named E (read E t).forest caller message 1 ≡ passed k
   pub object : get_or message 2 0 ≡ 0
   pub asked : get_or message 3 0 ≡ size
   pub root : ℕ
-  pub rooted : row_named E (cap_at (read E t).forest) caller message 4 ≡ passed root
+  pub rooted : row_named E (read E t).forest caller message 4 ≡ passed root
   pub into : Cap
-  pub found : node E (cap_at (read E t).forest) (place (cap_at (read E t).forest root) message 5 false) ≡ passed into
+  pub found : node E (read E t).forest (place (cap_at (read E t).forest root) message 5 false) ≡ passed into
   pub cnode : is_cnode into ≡ true
   pub among : get_or message 7 0 < slots into
   pub vacant : is_empty (cap_of t.table (first_row E into + get_or message 7 0)) ≡ true

@@ -17,16 +17,15 @@ use Rattle.model.specs.Tables.{Tables, cap_of, lent, read, word}
 use Rattle.model.specs.Rules.{well_formed}
 use Rattle.model.specs.Operations.{full, fresh}
 use Rattle.model.specs.Request.{carried_out}
-use Rattle.words.proofs.WellFormed.{roomy32}
-use Rattle.words.proofs.Outcome.{comes_refused, comes_done}
-use Rattle.algorithms.proofs.Transfer.Copied.{write_copied}
-use Rattle.algorithms.proofs.Transfer.Next.{children_words}
-use Rattle.words.specs.Children.{deeper_next}
+use Rattle.model.proofs.Words.WellFormed.{roomy32}
+use Rattle.model.proofs.Outcome.{comes_refused, comes_done}
+use Rattle.model.proofs.Transfer.Copied.{write_copied}
+use Rattle.model.proofs.Transfer.Next.{children_words}
+use Rattle.table.specs.Children.{deeper_next}
 use Rattle.transfer.specs.declared.ways.Way.{Way}
 use Rattle.transfer.specs.Places.{after}
 use Rattle.transfer.specs.Ways.{copied, copy_along, Along}
-use Rattle.words.proofs.Figures.{sane32}
-use Rattle.kept.proofs.Bounds.{row_below}
+use Rattle.model.proofs.Words.Bounds.{row_below}
 
 -- on well-formed tables the test of the next row is that of children
 children : (t : Tables) → well_formed edition32 t ≡ true → (k : ℕ) → is_empty (cap_of t.table k) ≡ false → deeper_next t.table k ≡ has_children (read edition32 t).forest k
@@ -53,7 +52,7 @@ module _ (t : Tables) (w : Way) (along : Along t w) where
   unfolding copied
   copies next depth source c u v n d s k eu ev =
       rw (ev, eu, s, k, n, d, add_comm (get_or t.control 3 0) 1)
-      (sym (write_copied edition32 roomy32 t along.formed w.from.0 w.to.0 (full edition32) (fresh w.cap) along.way.held along.way.free (row_below sane32 t along.formed w.to.0 along.way.to_in)))
+      (sym (write_copied edition32 roomy32 t along.formed w.from.0 w.to.0 (full edition32) (fresh w.cap) along.way.held along.way.free (row_below t along.formed w.to.0 along.way.to_in)))
 
   pub has_children_lem : w.cap.kind ≡ 1 → deeper_next t.table w.from.0 ≡ true → record { answer = RevokeFirst; tables = t } ≡ carried_out edition32 t (λ f. copy_along edition32 f w)
   unfolding copy_along is_untyped refuse ◌>>◌

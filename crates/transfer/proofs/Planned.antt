@@ -15,14 +15,13 @@ use Rattle.model.specs.Rules.{well_formed}
 use Rattle.model.specs.Operations.{Done, find, vacant, present, copy, move}
 use Rattle.model.specs.Request.{Outcome, carried_out}
 use Rattle.model.specs.Stores.{moved_tables}
-use Rattle.words.proofs.WellFormed.{roomy32}
-use Rattle.words.proofs.Caps.{caps_read}
-use Rattle.words.proofs.Outcome.{comes_refused, comes_done, comes_same, bind_bind, then_bind}
-use Rattle.algorithms.proofs.Transfer.Relocated.{write_relocated}
+use Rattle.model.proofs.Words.WellFormed.{roomy32}
+use Rattle.model.proofs.Words.Caps.{caps_read}
+use Rattle.model.proofs.Outcome.{comes_refused, comes_done, comes_same, bind_bind, then_bind}
+use Rattle.model.proofs.Transfer.Relocated.{write_relocated}
 use Rattle.transfer.specs.declared.ways.Way.{Way}
 use Rattle.transfer.specs.Ways.{free_slot, held_slot, way, copied, copy_along, relocated, Open}
-use Rattle.words.proofs.Figures.{sane32}
-use Rattle.kept.proofs.Bounds.{row_below}
+use Rattle.model.proofs.Words.Bounds.{row_below}
 
 copy_is : (E : Edition) (f : Forest) (dest source : Place) (how : Change) → copy E f dest source how ≡ (way E (cap_at f) dest source how >>= copy_along E f)
 unfolding copy way free_slot held_slot copy_along copied find vacant present ◌>>=◌ ◌>>◌
@@ -68,4 +67,4 @@ module _ (t : Tables) (e : well_formed edition32 t ≡ true) (dest source : Plac
   move_goes w found open-way u done =
       comes_done edition32 t (λ f. move edition32 f dest source how) (relocated w) u
       (goes (λ f. move edition32 f dest source how) (λ f v. passed (relocated v)) (λ f. move_is edition32 f dest source how) w found)
-      (done ∙ sym (write_relocated edition32 roomy32 t e w.from.0 w.to.0 w.cap open-way.held open-way.free (row_below sane32 t e w.to.0 open-way.to_in)))
+      (done ∙ sym (write_relocated edition32 roomy32 t e w.from.0 w.to.0 w.cap open-way.held open-way.free (row_below t e w.to.0 open-way.to_in)))

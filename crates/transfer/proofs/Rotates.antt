@@ -14,16 +14,15 @@ use Rattle.model.specs.Rules.{well_formed}
 use Rattle.model.specs.Operations.{Done, find, present, rotate}
 use Rattle.model.specs.Request.{carried_out}
 use Rattle.model.specs.Stores.{moved_tables, exchanged_tables}
-use Rattle.words.proofs.WellFormed.{roomy32}
-use Rattle.words.proofs.Caps.{caps_read}
-use Rattle.words.proofs.Outcome.{comes_refused, comes_done, bind_bind, then_bind}
-use Rattle.algorithms.proofs.Transfer.Turned.{write_turned, write_exchanged}
+use Rattle.model.proofs.Words.WellFormed.{roomy32}
+use Rattle.model.proofs.Words.Caps.{caps_read}
+use Rattle.model.proofs.Outcome.{comes_refused, comes_done, bind_bind, then_bind}
+use Rattle.model.proofs.Transfer.Turned.{write_turned, write_exchanged}
 use Rattle.transfer.specs.declared.turns.Rows.{Rows}
 use Rattle.transfer.specs.declared.turns.Turn.{Turn}
 use Rattle.transfer.specs.Places.{after}
 use Rattle.transfer.specs.Turns.{three_rows, turn_caps, turn, turned, InRows, Turnable, Turns}
-use Rattle.words.proofs.Figures.{sane32}
-use Rattle.kept.proofs.Bounds.{row_below}
+use Rattle.model.proofs.Words.Bounds.{row_below}
 
 -- ---- the stores
 
@@ -46,7 +45,7 @@ module _ (t : Tables) (w : Turn) (turns : Turns t w) where
       ∙ ap (λ (x : Tables). moved_tables edition32 x w.rows.from.0 w.rows.mid.0 w.source) first
       ∙ sym
       (write_turned edition32 roomy32 t turns.formed w.rows.from.0 w.rows.mid.0 turns.turnable.apart turns.turnable.held turns.turnable.pivoted w.pivot w.source
-      w.rows.to.0 (turns.turnable.free n) (row_below sane32 t turns.formed w.rows.to.0 turns.inside.to_in))
+      w.rows.to.0 (turns.turnable.free n) (row_below t turns.formed w.rows.to.0 turns.inside.to_in))
 
 -- ---- what comes of it
 

@@ -10,11 +10,10 @@ use Rattle.model.specs.Check.{refuse, ◌>>◌}
 use Rattle.model.specs.Tables.{Tables, rows, write}
 use Rattle.model.specs.Rules.{m_in_range, greatest_r, r_in_range, lengths_fit}
 use Rattle.model.specs.Request.{concluded, booted, boot}
-use Rattle.words.proofs.Booleans.{and_left, and_right}
-use Rattle.words.proofs.Booted.{control_booted}
-use Rattle.kept.proofs.Bounds.{radix_room}
+use Rattle.model.proofs.Booleans.{and_left, and_right}
+use Rattle.model.proofs.Words.Booted.{control_booted}
+use Rattle.model.proofs.Words.Bounds.{radix_room}
 use Rattle.zhvanirek_core.specs.Booting.{boot_table}
-use Rattle.words.proofs.Figures.{sane32}
 
 -- all four control words stored
 pub four_stored : (ws : List ℕ) (a b c d : ℕ) → length ws ≡ 4 → set (set (set (set ws 0 a) 1 b) 2 c) 3 d ≡ a ∷ b ∷ c ∷ d ∷ []
@@ -55,4 +54,4 @@ module _ (t : Tables) (m r : ℕ) where
           (ap (λ (ws : List ℕ). record { answer = Success 0; tables = record { table = (write edition32 (booted edition32 m r)).table; control = ws } }) control)
         where
           control : m ∷ r ∷ 0 ∷ (m - r - 3) ∷ [] ≡ (write edition32 (booted edition32 m r)).control
-          control = ap (λ (n : ℕ). m ∷ r ∷ 0 ∷ n ∷ []) (omega (arith, radix_room sane32 m ranged r rangedR)) ∙ sym (control_booted edition32 m r)
+          control = ap (λ (n : ℕ). m ∷ r ∷ 0 ∷ n ∷ []) (omega (arith, radix_room m ranged r rangedR)) ∙ sym (control_booted edition32 m r)

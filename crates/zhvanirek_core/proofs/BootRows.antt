@@ -11,12 +11,11 @@ use borrow.Author.Tests.{eq-eqb, ne_eqb}
 use Rattle.model.specs.Edition.{edition32}
 use Rattle.model.specs.Tables.{rows, zero_row, listing, write}
 use Rattle.model.specs.Request.{booted}
-use Rattle.words.proofs.Distinct.{Order, less, same, more, order}
-use Rattle.words.proofs.Rows.{row_at, eight_at, length_rows_from}
-use Rattle.words.proofs.Booted.{row_booted, row_unbooted}
-use Rattle.kept.proofs.Bounds.{m_most, radix_room}
+use Rattle.model.proofs.Distinct.{Order, less, same, more, order}
+use Rattle.model.proofs.Words.Rows.{row_at, eight_at, length_rows_from}
+use Rattle.model.proofs.Words.Booted.{row_booted, row_unbooted}
+use Rattle.model.proofs.Words.Bounds.{m_most, radix_room}
 use Rattle.zhvanirek_core.specs.Booting.{Range, boot_table}
-use Rattle.words.proofs.Figures.{sane32}
 
 -- 2^e in a word of 32 bits
 shifted : (e : ℕ) → e < 32 → (1 * 2 ^ e) % 4294967296 ≡ 2 ^ e
@@ -24,7 +23,7 @@ shifted e h = shl_exact {a = 1} 1 e 32 (lit< tt) (omega arith) ∙ one-mul (2 ^ 
 
 module _ (m r : ℕ) (range : Range m r) where
   room : r + 5 ≤ m
-  room = radix_room sane32 m range.m_in r range.r_in
+  room = radix_room m range.m_in r range.r_in
 
   row_zero : 0 < rows edition32 m → 5 ∷ 0 ∷ r ∷ 0 ∷ (32 - r) ∷ 1 ∷ 4294967295 ∷ 0 ∷ [] ≡ row_at (boot_table m r) 0
   unfolding boot_table
@@ -39,7 +38,7 @@ module _ (m r : ℕ) (range : Range m r) where
   row_untyped i next inside low after =
       let size : r + 3 + suc i ≡ r + 4 + i = omega arith in
       let before : suc i - 1 ≡ i = omega arith in
-      ap (λ w. 1 ∷ w ∷ (r + 3 + suc i) ∷ 0 ∷ 0 ∷ next ∷ (suc i - 1) ∷ 0 ∷ []) (shifted (r + 3 + suc i) (omega (arith, room, m_most sane32 m range.m_in)))
+      ap (λ w. 1 ∷ w ∷ (r + 3 + suc i) ∷ 0 ∷ 0 ∷ next ∷ (suc i - 1) ∷ 0 ∷ []) (shifted (r + 3 + suc i) (omega (arith, room, m_most m range.m_in)))
       ∙ ap₂ (λ n w. 1 ∷ 2 ^ n ∷ n ∷ 0 ∷ 0 ∷ next ∷ w ∷ 0 ∷ []) size before
       ∙ ap (λ w. 1 ∷ 2 ^ (r + 4 + i) ∷ (r + 4 + i) ∷ 0 ∷ 0 ∷ w ∷ i ∷ 0 ∷ []) after
       ∙ sym (row_booted edition32 m r (suc i) inside (omega arith))

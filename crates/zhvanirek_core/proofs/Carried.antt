@@ -13,9 +13,9 @@ use Rattle.model.specs.Rules.{well_formed}
 use Rattle.model.specs.Lookup.{lookup}
 use Rattle.model.specs.Operations.{Done}
 use Rattle.model.specs.Request.{or_fault, row_named, carried_out}
-use Rattle.words.proofs.Outcome.{comes_refused, comes_same}
-use Rattle.words.proofs.Caps.{caps_read}
-use Rattle.words.proofs.WellFormed.{roomy32}
+use Rattle.model.proofs.Outcome.{comes_refused, comes_same}
+use Rattle.model.proofs.Words.Caps.{caps_read}
+use Rattle.model.proofs.Words.WellFormed.{roomy32}
 use Rattle.zhvanirek_core.specs.Asking.{row_named_by}
 
 module _ (t : Tables) (formed : well_formed edition32 t ≡ true) where

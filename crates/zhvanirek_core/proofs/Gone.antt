@@ -15,12 +15,12 @@ use Rattle.model.specs.Rules.{well_formed}
 use Rattle.model.specs.Lookup.{lookup}
 use Rattle.model.specs.Operations.{Done, slot_of, find, remove, delete, descendants, revoke}
 use Rattle.model.specs.Request.{carried_out, concluded, applied, place}
-use Rattle.words.proofs.Outcome.{comes_refused}
-use Rattle.algorithms.specs.Removing.{Removes, target, offspring}
+use Rattle.model.proofs.Outcome.{comes_refused}
+use Rattle.removal.specs.Removing.{Removes, target, offspring}
 use Rattle.zhvanirek_core.proofs.Carried.{caps_are}
 
 -- what a removal leaves, as what is concluded
-gone_is : (t t' : Tables) (start : List ℕ) (gone : ℕ) → Removes edition32 t t' start gone
+gone_is : (t t' : Tables) (start : List ℕ) (gone : ℕ) → Removes t t' start gone
     → record { answer = Success gone; tables = t' } ≡ concluded edition32 t (passed (applied (read edition32 t) (remove edition32 (read edition32 t).forest start)))
 unfolding concluded
 gone_is t t' start gone r = λ i. record { answer = Success (r.count i); tables = r.tables i }
@@ -47,7 +47,7 @@ module _ (t : Tables) (formed : well_formed edition32 t ≡ true) (message : Lis
         (unfold ◌>>=◌ in ap (λ (c : Check ℕ). c >>= λ row. passed (remove edition32 (read edition32 t).forest (from (read edition32 t).forest row))) (found_is ∙ e))
 
     removing_found : (row : ℕ) (t' : Tables) (gone : ℕ) → slot_of edition32 p.source (lookup edition32 (cap_of t.table) p.root p.index p.depth) ≡ passed row
-        → Removes edition32 t t' (from (read edition32 t).forest row) gone → record { answer = Success gone; tables = t' } ≡ carried_out edition32 t removing
+        → Removes t t' (from (read edition32 t).forest row) gone → record { answer = Success gone; tables = t' } ≡ carried_out edition32 t removing
     unfolding carried_out removing
     removing_found row t' gone e r =
         gone_is t t' (from (read edition32 t).forest row) gone r
@@ -64,7 +64,7 @@ module _ (t : Tables) (formed : well_formed edition32 t ≡ true) (message : Lis
   delete_refused a e = removing_refused one a e
 
   pub delete_found : (row : ℕ) (t' : Tables) (gone : ℕ) → slot_of edition32 p.source (lookup edition32 (cap_of t.table) p.root p.index p.depth) ≡ passed row
-      → Removes edition32 t t' (target edition32 t row) gone → record { answer = Success gone; tables = t' } ≡ carried_out edition32 t (λ f. delete edition32 f (place (cap_at f k) message 2 false))
+      → Removes t t' (target t row) gone → record { answer = Success gone; tables = t' } ≡ carried_out edition32 t (λ f. delete edition32 f (place (cap_at f k) message 2 false))
   unfolding delete removing one
   delete_found row t' gone e r = removing_found one row t' gone e r
 
@@ -76,6 +76,6 @@ module _ (t : Tables) (formed : well_formed edition32 t ≡ true) (message : Lis
   revoke_refused a e = removing_refused descendants a e
 
   pub revoke_found : (row : ℕ) (t' : Tables) (gone : ℕ) → slot_of edition32 p.source (lookup edition32 (cap_of t.table) p.root p.index p.depth) ≡ passed row
-      → Removes edition32 t t' (offspring edition32 t row) gone → record { answer = Success gone; tables = t' } ≡ carried_out edition32 t (λ f. revoke edition32 f (place (cap_at f k) message 2 false))
+      → Removes t t' (offspring t row) gone → record { answer = Success gone; tables = t' } ≡ carried_out edition32 t (λ f. revoke edition32 f (place (cap_at f k) message 2 false))
   unfolding revoke removing
   revoke_found row t' gone e r = removing_found descendants row t' gone e r

@@ -18,20 +18,19 @@ use Rattle.model.specs.Tables.{Tables, cap_of, read}
 use Rattle.model.specs.Rules.{well_formed}
 use Rattle.model.specs.Operations.{Done, copy, move, rotate, delete, revoke, retype}
 use Rattle.model.specs.Request.{carried_out, operation_of, perform, place}
-use Rattle.words.proofs.Outcome.{comes_refused, comes_same}
-use Rattle.algorithms.specs.Ready.{Usable}
-use Rattle.algorithms.proofs.Lookup.WellFormed.{usable}
+use Rattle.model.proofs.Outcome.{comes_refused, comes_same}
+use Rattle.lookup.specs.Ready.{Usable}
+use Rattle.lookup.proofs.WellFormed.{usable}
 use Rattle.retype.specs.Allotting.{Retypable}
 use Rattle.zhvanirek_core.specs.Asking.{retyping_by, row_named_by}
 use Rattle.zhvanirek_core.specs.Serving.{two_places, turned_from}
 use Rattle.zhvanirek_core.proofs.Carried.{caps_are, root_found, root_refused}
-use Rattle.words.proofs.Figures.{sane32}
 
 -- a place whose root was read from the table can be looked up
 pub place_reached : (t : Tables) → well_formed edition32 t ≡ true → (k : ℕ) (message : List ℕ) (at : ℕ) (source : Bool) (p : Place) → p ≡ place (cap_of t.table k) message at source
-    → is_cnode p.root ≡ true → Usable edition32 t.table p.root
+    → is_cnode p.root ≡ true → Usable t.table p.root
 unfolding place
-place_reached t formed k message at source p e = subst (λ (z : Place). is_cnode z.root ≡ true → Usable edition32 t.table z.root) (sym e) (usable sane32 t formed k)
+place_reached t formed k message at source p e = subst (λ (z : Place). is_cnode z.root ≡ true → Usable t.table z.root) (sym e) (usable t formed k)
 
 -- what Retype asks, of a root that was read from the table
 pub retypable : (t : Tables) (message : List ℕ) (k : ℕ) → well_formed edition32 t ≡ true → k * 8 + 8 ≤ length t.table → is_untyped (cap_of t.table k) ≡ true → (root : ℕ) (q : Retyping) → q ≡ retyping_by (cap_of t.table) message root → Retypable t k q
@@ -41,7 +40,7 @@ retypable t message k formed inside untyped root q e =
       formed = formed;
       untyped = untyped;
       in_table = inside;
-      usable = subst (λ (z : Retyping). is_cnode z.into.root ≡ true → Usable edition32 t.table z.into.root) (sym e) (usable sane32 t formed root);
+      usable = subst (λ (z : Retyping). is_cnode z.into.root ≡ true → Usable t.table z.into.root) (sym e) (usable t formed root);
     }
 
 module _ (t : Tables) (formed : well_formed edition32 t ≡ true) (caller : ℕ) (message : List ℕ) (k : ℕ) where

@@ -12,8 +12,8 @@ use Rattle.model.specs.Check.{Check, passed, refused, ◌>>=◌, ◌>>◌}
 use Rattle.model.specs.Tables.{Tables, cap_of, read}
 use Rattle.model.specs.Rules.{well_formed}
 use Rattle.model.specs.Request.{operation_of, invokes, row_named, perform, served, carried_out, request}
-use Rattle.words.proofs.Outcome.{comes_refused, comes_same, bind_bind, then_bind}
-use Rattle.kept.proofs.Checks.{passes_at, twin_bind, twin_known, twin_pass, twin_refuse, twin_seq}
+use Rattle.model.proofs.Outcome.{comes_refused, comes_same, bind_bind, then_bind}
+use Rattle.model.proofs.Kept.Checks.{passes_at, twin_bind, twin_known, twin_pass, twin_refuse, twin_seq}
 use Rattle.zhvanirek_core.specs.Asking.{row_named_by, asked}
 use Rattle.zhvanirek_core.proofs.Carried.{caps_are}
 

@@ -1,10 +1,9 @@
 // Who is asked: the service that a message names, and the roots after it.
-ghost use Rattle.model.specs.Edition.{edition32};
 ghost use Rattle.std.specs.Prelude.{◌≡◌, ◌+◌, ◌*◌, ◌≤◌, length};
 ghost use Rattle.model.specs.Tables as tables;
 ghost use Rattle.model.specs.Request as spec;
 ghost use Rattle.lookup.specs.Finds.{Finds};
-ghost use Rattle.algorithms.specs.Ready.{Ready};
+ghost use Rattle.lookup.specs.Ready.{Ready};
 ghost use Rattle.zhvanirek_core.specs.Asking as asking;
 
 use crate::message::{invokes, operation_of, word_at, words_of};
@@ -28,7 +27,7 @@ pub fn cap_or_nothing(table: &[u32], row: u32) -> Cap
 
 // The row that message word `at` names, from the caller's.
 pub fn row_named(table: &[u32], caller: u32, message: &[u32], at: u32) -> Found
-    requires { Ready edition32 table.now }
+    requires { Ready table.now }
     ensures { Finds table.now (asking.row_named_by (tables.cap_of table.now) caller message.now at) result }
 {
     named(
@@ -41,7 +40,7 @@ pub fn row_named(table: &[u32], caller: u32, message: &[u32], at: u32) -> Found
 
 // The service that a message asks, once it may be asked.
 pub fn asked(table: &[u32], caller: u32, message: &[u32]) -> Found
-    requires { Ready edition32 table.now }
+    requires { Ready table.now }
     ensures { Finds table.now (asking.asked (tables.cap_of table.now) caller message.now) result }
 {
     if message.len() < 2 {

@@ -2,7 +2,7 @@
 ghost use Rattle.std.specs.Prelude.{◌≡◌, ◌*◌, ◌<◌, length, slice_index};
 ghost use Rattle.model.specs.Edition.{edition32};
 ghost use Rattle.model.specs.Tables as tables;
-ghost use Rattle.words.proofs.Rows.{row_at};
+ghost use Rattle.model.proofs.Words.Rows.{row_at};
 ghost use Rattle.zhvanirek_core.specs.Booting.{Range, boot_table};
 
 use model::{CNODE, NONE, UNTYPED};

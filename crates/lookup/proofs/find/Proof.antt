@@ -1,32 +1,47 @@
 -- `lookup::find` meets its contract: each way out is what the definition makes of what the lookup gave.
 -- Assumes nothing.
-use mathlib.Core.Path.{ap, sym, ◌∙◌}
+use mathlib.Core.Path.{refl, sym, ◌∙◌}
 use borrow.Author.Rules.{rules}
 use Rattle.model.specs.Edition.{edition32}
-use Rattle.model.specs.Operations.{find, slot_of}
+use Rattle.model.specs.Operations.{slot_of}
+use Rattle.lookup.proofs.Finding.{finds_row, finds_refusal}
 use Rattle.lookup.proofs.find.Statement.{statement}
 use Rattle.lookup.proofs.find.Tie as tie
 
+lookup-requires : tie.Need-lookup-requires
+lookup-requires c κs = search rules
+
+enum-known-looked : tie.Need-enum-known-looked
+enum-known-looked c = search rules
+
+enum-known-looked-2 : tie.Need-enum-known-looked-2
+enum-known-looked-2 c = search rules
+
+enum_told : tie.Need-enum-told
+enum_told c = search rules
+
 returns : tie.Need-returns
-unfolding find slot_of
-returns c = sym (ap (slot_of edition32 _) (sym c.before.before.before.lookup.ensures ∙ c.before.looked.given.1))
+unfolding slot_of
+returns c =
+    finds_row _ _ _ _ (slot_of edition32 c.before.before.before.before.before.args.p.source) c.before.before.before.before.before.requires.0 c.before.before.before.before.before.requires.1 _ refl
+    (sym c.before.before.before.lookup.ensures ∙ c.before.looked.given.1)
 
 returns-2 : tie.Need-returns-2
-unfolding find slot_of
-returns-2 c = sym (ap (slot_of edition32 _) (sym c.before.before.before.lookup.ensures ∙ c.before.looked2.given.1))
+unfolding slot_of
+returns-2 c = finds_refusal _ _ _ _ (slot_of edition32 c.before.before.before.before.before.args.p.source) _ _ refl (sym c.before.before.before.lookup.ensures ∙ c.before.looked2.given.1)
 
 returns-3 : tie.Need-returns-3
-unfolding find slot_of
-returns-3 c = sym (ap (slot_of edition32 _) (sym c.before.before.lookup.ensures ∙ c.enum_told.given.1))
+unfolding slot_of
+returns-3 c = finds_refusal _ _ _ _ (slot_of edition32 c.before.before.before.before.args.p.source) _ _ refl (sym c.before.before.lookup.ensures ∙ c.enum_told.given.1)
 
 pub find_spec : {M : Type 1} → statement M
 find_spec =
     tie.close
     (tie.spec
-    (λ c κs. search rules)
-    (λ c. search rules)
-    (λ c. search rules)
-    (λ c. search rules)
+    lookup-requires
+    enum-known-looked
+    enum-known-looked-2
+    enum_told
     returns
     returns-2
     returns-3)

@@ -13,13 +13,13 @@ use Rattle.model.specs.Lists.{within}
 use Rattle.model.specs.Cap.{is_cnode, first_row}
 use Rattle.model.specs.Tables.{cap_of}
 use Rattle.model.specs.Lookup.{guard_missed, taken, picked, lookup}
-use Rattle.words.proofs.Booleans.{parts_within}
-use Rattle.algorithms.proofs.Lookup.Levels.{picked_inside, guard_missed_lem, too_deep, done, no_node, node, Going, ends, goes_on}
+use Rattle.model.proofs.Booleans.{parts_within}
+use Rattle.lookup.proofs.Levels.{picked_inside, guard_missed_lem, too_deep, done, no_node, node, Going, ends, goes_on}
 use Rattle.lookup.proofs.lookup.Statement.{statement}
 use Rattle.lookup.proofs.lookup.Tie as tie
 
 abbrev invariant-loop : tie.invariant-loop
-invariant-loop t address depth node₀ left₀ node left = Going edition32 t address (lookup edition32 (cap_of t) node₀ address left₀) node left
+invariant-loop t address depth node₀ left₀ node left = Going t address (lookup edition32 (cap_of t) node₀ address left₀) node left
 
 abbrev decreases-loop : tie.decreases-loop
 decreases-loop t address depth node₀ left₀ node left = left
@@ -53,6 +53,12 @@ loop-holds c =
 
 -- ---- the tests of a level
 
+guard-missed-requires : tie.Need-guard-missed-requires invariant-loop decreases-loop
+guard-missed-requires c κs = search rules
+
+add-taken : tie.Need-overflow-add-taken invariant-loop decreases-loop
+add-taken c = search rules
+
 returns-3 : tie.Need-returns-3 invariant-loop decreases-loop
 returns-3 c = ends c.before.before.before.loop.invariant (guard_missed_lem _ _ _ _ _ (sym c.before.before.guard_missed_lem.ensures ∙ c.if4.true))
 
@@ -74,6 +80,15 @@ returns-4 : tie.Need-returns-4 invariant-loop decreases-loop
 unfolding taken
 returns-4 c = ends (head c.before).loop.inv (too_deep _ _ _ _ _ (met c.before) c.if5.true)
 
+row-of-requires : tie.Need-row-of-requires invariant-loop decreases-loop
+row-of-requires c κs = search rules
+
+sub-unguarded : tie.Need-overflow-sub-unguarded invariant-loop decreases-loop
+sub-unguarded c = search rules
+
+field-requires : tie.Need-field-requires invariant-loop decreases-loop
+field-requires c κs = search rules
+
 -- ---- where the slot is known
 
 abbrev Known : Type 0
@@ -91,7 +106,7 @@ unfolding picked first_row
 there c = ap₂ ◌+◌ c.before.before.before.row_of_lem.ensures c.before.field.ensures
 
 inside : (c : Known) → row c * 8 + 8 ≤ length (start (past c)).args.t.now
-inside c = rw (there c) (picked_inside edition32 _ _ _ _ (head (past c)).loop.inv.usable)
+inside c = rw (there c) (picked_inside _ _ _ _ (head (past c)).loop.inv.usable)
 
 deep : (c : Known) → taken (head (past c)).loop.node ≤ (head (past c)).loop.left
 unfolding taken
@@ -152,13 +167,13 @@ lookup-spec =
     returns
     returns-2
     loop-holds
-    (λ c κs. search rules)
-    (λ c. search rules)
+    guard-missed-requires
+    add-taken
     returns-3
     returns-4
-    (λ c κs. search rules)
-    (λ c. search rules)
-    (λ c κs. search rules)
+    row-of-requires
+    sub-unguarded
+    field-requires
     add_row
     returns-5
     cap-at-requires

@@ -15,8 +15,20 @@ entry s = s.before.before.before.before.before
 abbrev found : tie.After-lay-out-arg2 → tie.After-memory2
 found l = l.before.before.before
 
+cap-at-requires : tie.Need-cap-at-requires
+cap-at-requires c κs = search rules
+
+start-requires : tie.Need-start-requires
+start-requires c κs = search rules
+
 memory-for-requires : tie.Need-memory-for-requires
 memory-for-requires c κs = bounded _ _ _ _ (entry c).requires _ _ c.before.before.cap_at_lem.ensures c.start.ensures
+
+enum-known-memory : tie.Need-enum-known-memory
+enum-known-memory c = search rules
+
+enum-known-memory-2 : tie.Need-enum-known-memory-2
+enum-known-memory-2 c = search rules
 
 lay-out-requires : tie.Need-lay-out-requires
 lay-out-requires c κs =
@@ -25,12 +37,18 @@ lay-out-requires c κs =
     layable _ _ _ _ (entry s).pre _ _ s.before.before.cap_at_lem.ensures s.start.ensures _
     (ap of_memory (sym (found c).memory2.given.1) ∙ m.memory-for.ensures)
 
+same_length : tie.Need-same-length
+same_length c = search rules
+
 returns : tie.Need-returns
 returns c =
     let m = c.before.before.before in
     let s = m.before in
     allot_refused _ _ _ _ (entry s).requires _ _ s.before.before.cap_at_lem.ensures s.start.ensures _
     (ap of_memory (sym c.before.memory.given.1) ∙ m.memory-for.ensures)
+
+same-length-2 : tie.Need-same-length-2
+same-length-2 c = search rules
 
 returns-2 : tie.Need-returns-2
 returns-2 c =
@@ -45,13 +63,13 @@ pub allot-spec : {M : Type 1} → statement M
 allot-spec =
     tie.close
     (tie.spec
-    (λ c κs. search rules)
-    (λ c κs. search rules)
+    cap-at-requires
+    start-requires
     memory-for-requires
-    (λ c. search rules)
-    (λ c. search rules)
+    enum-known-memory
+    enum-known-memory-2
     lay-out-requires
-    (λ c. search rules)
+    same_length
     returns
-    (λ c. search rules)
+    same-length-2
     returns-2)

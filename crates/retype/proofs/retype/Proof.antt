@@ -18,15 +18,27 @@ found a = a.before.before.before
 first-slot-requires : tie.Need-first-slot-requires
 first-slot-requires c κs = (tables_ready _ _ _ c.before.before.requires, c.before.before.requires.usable)
 
+enum-known-found : tie.Need-enum-known-found
+enum-known-found c = search rules
+
+enum-known-found-2 : tie.Need-enum-known-found-2
+enum-known-found-2 c = search rules
+
 allot-requires : tie.Need-allot-requires
 allot-requires c κs =
     let tested = (found c).before.before in
     first_vacant _ _ _ (start tested).pre _ (ap of_found (sym (found c).found2.given.1) ∙ tested.first_slot.ensures)
 
+same_length : tie.Need-same-length
+same_length c = search rules
+
 returns : tie.Need-returns
 returns c =
     let tested = c.before.before.before in
     retype_refused _ _ _ (start tested).requires _ (ap of_found (sym c.before.found.given.1) ∙ tested.first_slot.ensures)
+
+same-length-2 : tie.Need-same-length-2
+same-length-2 c = search rules
 
 returns-2 : tie.Need-returns-2
 returns-2 c =
@@ -40,10 +52,10 @@ retype-spec =
     tie.close
     (tie.spec
     first-slot-requires
-    (λ c. search rules)
-    (λ c. search rules)
+    enum-known-found
+    enum-known-found-2
     allot-requires
-    (λ c. search rules)
+    same_length
     returns
-    (λ c. search rules)
+    same-length-2
     returns-2)

@@ -4,21 +4,23 @@ use mathlib.Core.Path.{◌≡◌, sym, ◌∙◌}
 use native.Mathlib.Omega.{arith}
 use borrow.Author.Rules.{rules}
 use borrow.Author.Tests.{not-true, not-false}
-use Rattle.model.specs.Edition.{edition32, most_rows}
-use Rattle.words.proofs.Figures.{sane32}
-use Rattle.kept.proofs.Bounds.{m_most}
-use Rattle.algorithms.specs.Owners.{first_cell}
-use Rattle.algorithms.proofs.Check.Enters.{small, most_bytes, as_cells, in_array, first_in_array, below_typed, outside, is_held, others_own, takes}
+use Rattle.model.specs.Edition.{most_rows}
+use Rattle.model.proofs.Words.Bounds.{m_most}
+use Rattle.rules.specs.Owners.{first_cell}
+use Rattle.rules.proofs.Enters.{small, most_bytes, as_cells, in_array, first_in_array, below_typed, outside, is_held, others_own, takes}
 use Rattle.rules.proofs.enter.Statement.{statement}
 use Rattle.rules.proofs.enter.Tie as tie
 
 cap-up-requires : tie.Need-cap-up-requires
 cap-up-requires c κs =
     let s = c.before in
-    (omega (arith, m_most sane32 _ s.requires.0.scanned.m_range), λ n. omega (arith, s.requires.1 n, s.requires.0.scanned.long))
+    (omega (arith, m_most _ s.requires.0.scanned.m_range), λ n. omega (arith, s.requires.1 n, s.requires.0.scanned.long))
 
 cap-at-requires : tie.Need-cap-at-requires
 cap-at-requires c κs = let s = c.before.before in omega (arith, s.requires.0.below, s.requires.0.scanned.long)
+
+same-object-requires : tie.Need-same-object-requires
+same-object-requires c κs = search rules
 
 returns : tie.Need-returns
 returns c =
@@ -50,6 +52,12 @@ returns-2 c =
     let z : Sized = i.before in
     outside _ _ _ _ _ _ _ (read z).before.cap-up.ensures (read z).cap_at_lem.ensures z.before.if1.false (sym i.inside-below.ensures ∙ not-true _ c.if2.true) _
 
+row-of-requires : tie.Need-row-of-requires
+row-of-requires c κs = search rules
+
+cast-first : tie.Need-overflow-cast-first
+cast-first c = search rules
+
 -- ---- where it lies is known
 
 abbrev Found : Type 0
@@ -62,7 +70,7 @@ is-first : (c : Found) → c.before.row_of_lem.result.0 ≡ first_cell (read (si
 unfolding first_cell
 is-first c = c.before.row_of_lem.ensures
 
-first_in : (c : Found) → c.before.row_of_lem.result.0 < (most_rows edition32)
+first_in : (c : Found) → c.before.row_of_lem.result.0 < most_rows
 first_in c = let z = sized c in omega (arith, is-first c, first_in_array _ _ _ (start z).pre.0 _ (read z).cap_at_lem.ensures)
 
 mul-by : tie.Need-overflow-mul-by
@@ -85,7 +93,7 @@ returns-3 c =
     is_held _ _ _ _ _ _ _ (read z).before.cap-up.ensures (read z).cap_at_lem.ensures z.before.if1.left (sym i.before.inside-below.ensures ∙ not-false _ i.if2.false) _ (is-first f)
     b.if3.true _ c.beside.ensures
 
-cells_in : (c : Found) → c.before.row_of_lem.result.0 + (sized c).bytes_of.result / 16 ≤ (most_rows edition32)
+cells_in : (c : Found) → c.before.row_of_lem.result.0 + (sized c).bytes_of.result / 16 ≤ most_rows
 cells_in c =
     let z = sized c in
     omega (arith, is-first c, as_cells _ _ _ (start z).pre.0 _ (read z).cap_at_lem.ensures _ z.bytes_of.ensures, in_array _ _ _ (start z).pre.0 _ (read z).cap_at_lem.ensures)
@@ -131,13 +139,13 @@ enter_spec =
     (tie.spec
     cap-up-requires
     cap-at-requires
-    (λ c κs. search rules)
+    same-object-requires
     returns
     bytes-of-requires
     inside-below-requires
     returns-2
-    (λ c κs. search rules)
-    (λ c. search rules)
+    row-of-requires
+    cast-first
     mul-by
     element-copy-out-by
     beside-requires

@@ -7,17 +7,16 @@ use borrow.Author.Tests.{not-true, not-false}
 use lib.ListN.{length, replicate, length-replicate}
 use Rattle.model.specs.Edition.{edition32, most_rows}
 use Rattle.model.specs.Tables.{rows, follow}
-use Rattle.words.proofs.Figures.{sane32}
-use Rattle.kept.proofs.Bounds.{rows_most}
-use Rattle.algorithms.specs.Owners.{walk}
-use Rattle.algorithms.proofs.Check.Law.{forest_judged}
-use Rattle.algorithms.proofs.Check.Stepping.{Underway, few, row_below, row_filled, row_shallow, goes_on, stops, begins, row_up, let_in, kept_out, fails, ends}
+use Rattle.model.proofs.Words.Bounds.{rows_most}
+use Rattle.rules.specs.Owners.{walk}
+use Rattle.rules.proofs.Law.{forest_judged}
+use Rattle.rules.proofs.Stepping.{Underway, few, row_below, row_filled, row_shallow, goes_on, stops, begins, row_up, let_in, kept_out, fails, ends}
 use Rattle.rules.proofs.forest_allowed.Statement.{statement}
 use Rattle.rules.proofs.forest_allowed.Tie as tie
 
 abbrev invariant-loop : tie.invariant-loop
 invariant-loop t m head count owner₀ above₀ k₀ left₀ owner above k left =
-    Underway m count t (walk edition32 m t (replicate (most_rows edition32) 0) (replicate (most_rows edition32) 4294967295) (follow edition32 t count head)) above owner k left
+    Underway m count t (walk edition32 m t (replicate most_rows 0) (replicate most_rows 4294967295) (follow edition32 t count head)) above owner k left
 
 abbrev decreases-loop : tie.decreases-loop
 decreases-loop t m head count owner₀ above₀ k₀ left₀ owner above k left = left
@@ -40,7 +39,7 @@ inside : (c : Entry) → c.before.loop.k * 8 + 8 ≤ length (start c).args.t.now
 inside c = omega (arith, below c, (start c).requires.counts.scanned.long)
 
 small : (c : Entry) → c.before.loop.k < 4294967295
-small c = omega (arith, below c, rows_most sane32 _ (start c).requires.counts.scanned.m_range)
+small c = omega (arith, below c, rows_most _ (start c).requires.counts.scanned.m_range)
 
 word-requires : tie.Need-word-requires invariant-loop decreases-loop
 word-requires c κs = (omega arith, inside c)
@@ -61,7 +60,7 @@ above n = n.before.before
 abbrev deep : tie.After-row-above invariant-loop decreases-loop → Deep
 deep a = a.before.before
 
-shallow : (c : Deep) → c.word.result < (most_rows edition32)
+shallow : (c : Deep) → c.word.result < most_rows
 shallow c =
     let e : Entry = c.before in
     omega (arith, c.word.ensures, row_shallow e.before.loop.invariant e.loop-test.true, few _ _ _ _ (start e).requires)
@@ -86,7 +85,7 @@ returns c =
     fails _ _ _ _
     (stops e.before.loop.inv e.loop-test.taken (small e)
     (kept_out _ _ _ _ _ _ _ a.row-above.ensures w.word.ensures _ _ n.enter.ensures (not-true _ c.if1.true)))
-    (forest_judged sane32 _ _ _ _ (replicate (most_rows edition32) 0) (start e).pre (omega (arith, length-replicate {A = ℕ} (most_rows edition32) 0)))
+    (forest_judged _ _ _ _ (replicate most_rows 0) (start e).pre (omega (arith, length-replicate {A = ℕ} most_rows 0)))
 
 mul-above : tie.Need-overflow-mul-above invariant-loop decreases-loop
 mul-above c = omega (arith, shallow (deep (above c.before)))
@@ -121,7 +120,7 @@ returns-2 : tie.Need-returns-2 invariant-loop decreases-loop
 returns-2 c =
     let l = c.before.before in
     c.housed.ensures
-    ∙ ends l.before.loop.invariant l.loop-test.false _ (forest_judged sane32 _ _ _ _ (replicate (most_rows edition32) 0) l.before.before.before.requires (omega (arith, length-replicate {A = ℕ} (most_rows edition32) 0)))
+    ∙ ends l.before.loop.invariant l.loop-test.false _ (forest_judged _ _ _ _ (replicate most_rows 0) l.before.before.before.requires (omega (arith, length-replicate {A = ℕ} most_rows 0)))
 
 pub forest-allowed-spec : {M : Type 1} → statement M
 forest-allowed-spec =

@@ -3,16 +3,14 @@ use Prim.Native.Nat.{◌+◌, ◌-◌, ◌*◌, ◌≤◌, ◌<◌}
 use mathlib.Core.Path.{◌≡◌, sym, ap, ◌∙◌}
 use mathlib.Core.Bool.{true}
 use mathlib.Core.Logic.{⊎_elim}
-use native.Mathlib.Nat.{mul-one}
 use native.Mathlib.Omega.{arith}
 use borrow.Author.Rules.{rules}
-use lib.ListN.{get_or, length}
+use lib.ListN.{length}
 use Rattle.model.specs.Edition.{edition32, most_rows}
 use Rattle.model.specs.Tables.{rows}
-use Rattle.words.proofs.Figures.{sane32}
-use Rattle.kept.proofs.Bounds.{rows_most}
-use Rattle.algorithms.specs.Owners.{cell_of, homes}
-use Rattle.algorithms.proofs.Check.Housing.{none_homes, empty_home, node_home, no_home, other_home}
+use Rattle.model.proofs.Words.Bounds.{rows_most}
+use Rattle.rules.specs.Owners.{homes}
+use Rattle.rules.proofs.Housing.{none_homes, empty_home, node_home, no_home, other_home}
 use Rattle.rules.proofs.housed.Statement.{statement}
 use Rattle.rules.proofs.housed.Tie as tie
 
@@ -36,15 +34,11 @@ Row = tie.In-loop invariant-loop decreases-loop
 below : (c : Row) → c.before.loop.k < rows edition32 c.before.before.before.before.args.m
 below c = omega (arith, c.loop-test.true, c.before.before.rows_of.ensures)
 
--- at 32 bits a row is one cell
-own : (c : Row) → get_or c.before.before.before.before.args.owner.now c.before.loop.k 0 ≡ get_or c.before.before.before.before.args.owner.now (cell_of edition32 c.before.loop.k) 0
-own c = ap (λ j. get_or c.before.before.before.before.args.owner.now j 0) (sym (mul-one c.before.loop.k))
-
 inside : (c : Row) → c.before.loop.k * 8 + 8 ≤ length c.before.before.before.before.args.t.now
 inside c = omega (arith, below c, c.before.before.before.before.requires.long)
 
-small : (c : Row) → c.before.loop.k < (most_rows edition32)
-small c = omega (arith, below c, rows_most sane32 _ c.before.before.before.before.requires.m_range)
+small : (c : Row) → c.before.loop.k < most_rows
+small c = omega (arith, below c, rows_most _ c.before.before.before.before.requires.m_range)
 
 word-requires : tie.Need-word-requires invariant-loop decreases-loop
 word-requires c κs = (omega arith, inside c)
@@ -63,7 +57,7 @@ returns c =
     let f = c.before.before in
     let r : Row = f.before.before in
     sym
-    (no_home _ _ _ _ _ (λ e. f.if1.true (f.before.word.ensures ∙ e)) _ (own r) _ (below r) (omega (arith, c.if2.true, r.before.before.rows_of.ensures)))
+    (no_home _ _ _ _ _ (λ e. f.if1.true (f.before.word.ensures ∙ e)) _ (below r) (omega (arith, c.if2.true, r.before.before.rows_of.ensures)))
 
 word-requires-2 : tie.Need-word-requires-2 invariant-loop decreases-loop
 word-requires-2 c κs =
@@ -76,7 +70,7 @@ returns-2 c =
     let f = b.before.before in
     let r : Row = f.before.before in
     sym
-    (other_home _ _ _ _ _ (λ e. f.if1.true (f.before.word.ensures ∙ e)) _ (own r) _ (below r) (omega (arith, b.if2.false, r.before.before.rows_of.ensures))
+    (other_home _ _ _ _ _ (λ e. f.if1.true (f.before.word.ensures ∙ e)) _ (below r) (omega (arith, b.if2.false, r.before.before.rows_of.ensures))
     (λ e. c.if3.true (c.before.word2.ensures ∙ e)))
 
 add-k : tie.Need-overflow-add-k invariant-loop decreases-loop
@@ -92,7 +86,7 @@ loop-again c =
     let h = r.before.loop.invariant.1 in (
       omega (arith, r.loop-test.true),
       ⊎_elim
-          (λ x. node_home _ _ _ _ _ (λ e. x.0.taken (w ∙ e)) _ (own r) h (omega (arith, x.2.left, r.before.before.rows_of.ensures)) (sym x.3.ensures ∙ x.4.left))
+          (λ x. node_home _ _ _ _ _ (λ e. x.0.taken (w ∙ e)) h (omega (arith, x.2.left, r.before.before.rows_of.ensures)) (sym x.3.ensures ∙ x.4.left))
           (λ x. empty_home _ _ _ _ _ h (sym w ∙ x.left))
           c.if1.branch,
     )

@@ -3,20 +3,19 @@ use mathlib.Core.Path.{sym, ◌∙◌}
 use native.Mathlib.Omega.{arith}
 use borrow.Author.Rules.{rules}
 use borrow.Author.Tests.{not-true, not-false}
-use Rattle.words.proofs.Figures.{sane32}
-use Rattle.kept.proofs.Bounds.{m_least, m_most}
-use Rattle.algorithms.proofs.Row.Tests.{size_fails, place_fails, third_fails, fourth_decides, untyped_most}
+use Rattle.model.proofs.Words.Bounds.{m_least, m_most}
+use Rattle.rules_row.proofs.Tests.{size_fails, place_fails, third_fails, fourth_decides, untyped_most}
 use Rattle.rules_row.proofs.cap_allowed.Statement.{statement}
 use Rattle.rules_row.proofs.cap_allowed.Tie as tie
 
 size-allowed-requires : tie.Need-size-allowed-requires
-size-allowed-requires c κs = (c.requires.0, omega (arith, m_least sane32 _ c.requires.1))
+size-allowed-requires c κs = (c.requires.0, omega (arith, m_least _ c.requires.1))
 
 returns : tie.Need-returns
 returns c = size_fails _ _ (sym c.before.size-allowed.ensures ∙ not-true _ c.if1.true)
 
 place-allowed-requires : tie.Need-place-allowed-requires
-place-allowed-requires c κs = let s = c.before.before in (s.requires.0, omega (arith, m_most sane32 _ s.requires.1))
+place-allowed-requires c κs = let s = c.before.before in (s.requires.0, omega (arith, m_most _ s.requires.1))
 
 returns-2 : tie.Need-returns-2
 returns-2 c =
@@ -37,6 +36,9 @@ returns-3 c =
     (sym p.before.place-allowed.ensures ∙ not-false _ p.if2.false)
     (sym c.before.third-allowed.ensures ∙ not-true _ c.if3.true)
 
+fourth-allowed-requires : tie.Need-fourth-allowed-requires
+fourth-allowed-requires c κs = search rules
+
 returns-4 : tie.Need-returns-4
 returns-4 c =
     let p = c.before.before.before in
@@ -56,5 +58,5 @@ cap-allowed-spec =
     returns-2
     third-allowed-requires
     returns-3
-    (λ c κs. search rules)
+    fourth-allowed-requires
     returns-4)

@@ -4,8 +4,7 @@ use native.Mathlib.Omega.{arith}
 use borrow.Author.Rules.{rules}
 use Rattle.model.specs.Operations.{full}
 use Rattle.model.specs.Edition.{edition32}
-use Rattle.words.proofs.Figures.{sane32}
-use Rattle.kept.proofs.Bounds.{count_small, depth_small, size_small}
+use Rattle.model.proofs.Words.Bounds.{count_small, depth_small, size_small}
 use Rattle.transfer.proofs.Along.{copies}
 use Rattle.transfer.proofs.copied.Statement.{statement}
 use Rattle.transfer.proofs.copied.Tie as tie
@@ -33,19 +32,43 @@ next o = (depth o).before.before
 abbrev start : tie.After-cap-at → tie.Start
 start o = (next o).before.before.before
 
+word-requires : tie.Need-word-requires
+word-requires c κs = search rules
+
+word-requires-2 : tie.Need-word-requires-2
+word-requires-2 c κs = search rules
+
+cap-at-requires : tie.Need-cap-at-requires
+cap-at-requires c κs = search rules
+
 full-requires : tie.Need-full-requires
-full-requires c κs = let s = start c in rw c.cap_at_lem.ensures (λ untyped. omega (arith, size_small sane32 _ s.pre.formed _ s.pre.way.from_in untyped))
+full-requires c κs = let s = start c in rw c.cap_at_lem.ensures (λ untyped. omega (arith, size_small _ s.pre.formed _ s.pre.way.from_in untyped))
+
+put-cap-requires : tie.Need-put-cap-requires
+put-cap-requires c κs = search rules
+
+fresh-requires : tie.Need-fresh-requires
+fresh-requires c κs = search rules
 
 add-link : tie.Need-overflow-add-link
 add-link c =
     let o = old c in
-    omega (arith, (depth o).word2.ensures, depth_small sane32 _ (start o).pre.formed _ (start o).pre.way.held)
+    omega (arith, (depth o).word2.ensures, depth_small _ (start o).pre.formed _ (start o).pre.way.held)
 
 link-requires : tie.Need-link-requires
 link-requires c κs = let way = (start (old c)).requires.way in (omega (arith, way.from_in), omega (arith, way.to_in))
 
+element-copy-out-control : tie.Need-element-copy-out-control
+element-copy-out-control c = search rules
+
 add-control : tie.Need-overflow-add-control
-add-control c = omega (arith, count_small sane32 _ (start (old (linked c).before)).requires.formed)
+add-control c = omega (arith, count_small _ (start (old (linked c).before)).requires.formed)
+
+element-write-control : tie.Need-element-write-control
+element-write-control c = search rules
+
+same_length : tie.Need-same-length
+same_length c = search rules
 
 returns : tie.Need-returns
 returns c =
@@ -58,16 +81,16 @@ pub copied-spec : {M : Type 1} → statement M
 copied-spec =
     tie.close
     (tie.spec
-    (λ c κs. search rules)
-    (λ c κs. search rules)
-    (λ c κs. search rules)
+    word-requires
+    word-requires-2
+    cap-at-requires
     full-requires
-    (λ c κs. search rules)
-    (λ c κs. search rules)
+    put-cap-requires
+    fresh-requires
     add-link
     link-requires
-    (λ c. search rules)
+    element-copy-out-control
     add-control
-    (λ c. search rules)
-    (λ c. search rules)
+    element-write-control
+    same_length
     returns)

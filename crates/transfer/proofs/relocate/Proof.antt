@@ -1,8 +1,7 @@
 -- A refusal of the shared tests, or the entry moved.
 use mathlib.Core.Path.{refl}
 use borrow.Author.Rules.{rules}
-use Rattle.words.proofs.Figures.{sane32}
-use Rattle.algorithms.proofs.Lookup.WellFormed.{ready}
+use Rattle.lookup.proofs.WellFormed.{ready}
 use Rattle.transfer.proofs.Planned.{move_stops, move_goes}
 use Rattle.transfer.proofs.relocate.Statement.{statement}
 use Rattle.transfer.proofs.relocate.Tie as tie
@@ -12,7 +11,13 @@ abbrev start : tie.After-planned → tie.Start
 start p = p.before.before.before
 
 planned-requires : tie.Need-planned-requires
-planned-requires c κs = (ready sane32 _ c.before.before.requires.0, (c.before.before.requires.1.0, c.before.before.requires.1.1))
+planned-requires c κs = (ready _ c.before.before.requires.0, (c.before.before.requires.1.0, c.before.before.requires.1.1))
+
+enum-known-plan : tie.Need-enum-known-plan
+enum-known-plan c = search rules
+
+enum-known-plan-2 : tie.Need-enum-known-plan-2
+enum-known-plan-2 c = search rules
 
 shift-requires : tie.Need-shift-requires
 shift-requires c κs =
@@ -20,10 +25,16 @@ shift-requires c κs =
     let way = (rw found.plan2.given.1 at found.before.before.planned.ensures).goes _ refl in
     (way.from_in, way.to_in)
 
+same_length : tie.Need-same-length
+same_length c = search rules
+
 returns : tie.Need-returns
 returns c =
     let planned = c.before.before.before in
     move_stops _ (start planned).requires.0 _ _ _ _ (rw c.before.plan.given.1 at planned.planned.ensures).is
+
+same-length-2 : tie.Need-same-length-2
+same-length-2 c = search rules
 
 returns-2 : tie.Need-returns-2
 returns-2 c =
@@ -38,10 +49,10 @@ relocate-spec =
     tie.close
     (tie.spec
     planned-requires
-    (λ c. search rules)
-    (λ c. search rules)
+    enum-known-plan
+    enum-known-plan-2
     shift-requires
-    (λ c. search rules)
+    same_length
     returns
-    (λ c. search rules)
+    same-length-2
     returns-2)

@@ -15,6 +15,21 @@ four (Missing bits) = refl
 four (DepthMismatch bits resolved) = refl
 four (GuardMismatch bits guard size) = refl
 
+failure-words-requires : tie.Need-failure-words-requires
+failure-words-requires c κs = search rules
+
+array-read-t8 : tie.Need-array-read-t8
+array-read-t8 c = search rules
+
+array-read-t11 : tie.Need-array-read-t11
+array-read-t11 c = search rules
+
+array-read-t14 : tie.Need-array-read-t14
+array-read-t14 c = search rules
+
+array-read-t17 : tie.Need-array-read-t17
+array-read-t17 c = search rules
+
 returns : tie.Need-returns
 returns c = rw c.failure-words.ensures (ap (λ l. c.before.args.number ∷ c.before.args.detail ∷ l) (four c.before.args.failure))
 
@@ -22,9 +37,9 @@ pub with-failure-spec : {M : Type 1} → statement M
 with-failure-spec =
     tie.close
     (tie.spec
-    (λ c κs. search rules)
-    (λ c. search rules)
-    (λ c. search rules)
-    (λ c. search rules)
-    (λ c. search rules)
+    failure-words-requires
+    array-read-t8
+    array-read-t11
+    array-read-t14
+    array-read-t17
     returns)

@@ -10,14 +10,14 @@ use borrow.Author.Tests.{eq-eqb, ne_eqb}
 use Rattle.model.specs.Edition.{edition32, most_rows}
 use Rattle.model.specs.Cap.{is_cnode, first_row}
 use Rattle.model.specs.Tables.{cap_of}
-use Rattle.kept.proofs.Allowed.{some_slot}
-use Rattle.algorithms.specs.Marking.{row_count, Tally}
-use Rattle.algorithms.proofs.Removal.Tallying.{tally_none, tally_plain, tally_few, tally_node}
+use Rattle.model.proofs.Kept.Allowed.{some_slot}
+use Rattle.removal.specs.Marking.{row_count, Tally}
+use Rattle.removal.proofs.Tallying.{tally_none, tally_plain, tally_few, tally_node}
 use Rattle.removal.proofs.following.count_names.Statement.{statement}
 use Rattle.removal.proofs.following.count_names.Tie as tie
 
 abbrev invariant-loop : tie.invariant-loop
-invariant-loop t counts₀ rows row₀ counts row = (row ≤ rows) × Tally edition32 (cap_of t) counts row
+invariant-loop t counts₀ rows row₀ counts row = (row ≤ rows) × Tally (cap_of t) counts row
 
 abbrev decreases-loop : tie.decreases-loop
 decreases-loop t counts₀ rows row₀ counts row = rows - row
@@ -40,7 +40,7 @@ first_of : (c : Node) → first_row edition32 (cap_of (table_at (turn c)) (turn 
 unfolding first_row
 first_of c = ap (first_row edition32) (sym c.before.before.before.before.cap_at_lem.ensures) ∙ sym c.before.row_of_lem.ensures
 
-small : (c : Node) → c.before.row_of_lem.result.0 < (most_rows edition32)
+small : (c : Node) → c.before.row_of_lem.result.0 < most_rows
 small c =
     let n = (turn c).before.before.before.requires.0 in
     omega (arith, first_of c, n.few, n.inside (turn c).before.loop.row (turn c).loop-test.true (node_of c), some_slot (cap_of (table_at (turn c)) (turn c).before.loop.row))
@@ -53,7 +53,7 @@ cast-rows : tie.Need-overflow-cast-rows invariant-loop decreases-loop
 cast-rows c = omega (arith, c.before.requires.0.few)
 
 loop-holds : tie.Need-loop-init invariant-loop decreases-loop
-loop-holds c = (omega arith, tally_none edition32 _ _ c.before.requires.1)
+loop-holds c = (omega arith, tally_none _ _ c.before.requires.1)
 
 cap-at-requires : tie.Need-cap-at-requires invariant-loop decreases-loop
 cap-at-requires c κs = omega arith
@@ -71,7 +71,7 @@ element-copy-out-counts : tie.Need-element-copy-out-counts invariant-loop decrea
 element-copy-out-counts c = small c
 
 add-counts : tie.Need-overflow-add-counts invariant-loop decreases-loop
-add-counts c = let l = turn c.before in omega (arith, tally_few edition32 _ _ _ l.before.loop.inv.1 c.before.before.row_of_lem.result.0 (small c.before), l.loop-test.taken, l.before.before.before.pre.0.few)
+add-counts c = let l = turn c.before in omega (arith, tally_few _ _ _ l.before.loop.inv.1 c.before.before.row_of_lem.result.0 (small c.before), l.loop-test.taken, l.before.before.before.pre.0.few)
 
 mul-counts-2 : tie.Need-overflow-mul-counts-2 invariant-loop decreases-loop
 mul-counts-2 c = omega (arith, small c.before)
@@ -91,8 +91,8 @@ loop-again c =
       omega (arith, l.loop-test.true),
       ⊎_elim
           (λ w. let k : Node = record { before = record { before = record { before = c.before; if1 = w.0 }; row_of_lem = w.1 }; struct-known2 = w.2 } in
-          rw w.4 (tally_node edition32 _ _ _ l.before.loop.invariant.1 _ (small k) (node_of k) (first_of k)))
-          (λ w. rw w.1 (tally_plain edition32 _ _ _ l.before.loop.invariant.1 (plain_of c.before.before w.0.left)))
+          rw w.4 (tally_node _ _ _ l.before.loop.invariant.1 _ (small k) (node_of k) (first_of k)))
+          (λ w. rw w.1 (tally_plain _ _ _ l.before.loop.invariant.1 (plain_of c.before.before w.0.left)))
           c.if1.branch,
     )
 

@@ -8,18 +8,17 @@ use borrow.Author.Rules.{rules}
 use Rattle.model.specs.Edition.{edition32}
 use Rattle.model.specs.Tables.{Tables, cap_of, read}
 use Rattle.model.specs.Operations.{descendants}
-use Rattle.algorithms.specs.Marking.{row_count, Marks}
-use Rattle.algorithms.proofs.Removal.Slots.{marks_none, marks_then, marks_as}
-use Rattle.words.proofs.Figures.{sane32}
-use Rattle.algorithms.proofs.Removal.Nodes.{nodes, empty_at, there_at}
-use Rattle.algorithms.proofs.Removal.Descent.{Descending, descent_as, descent_spent, descent_end, descent_low, descent_row, descent_step, descent_start, none_below, place}
+use Rattle.removal.specs.Marking.{row_count, Marks}
+use Rattle.removal.proofs.Slots.{marks_none, marks_then, marks_as}
+use Rattle.removal.proofs.Nodes.{nodes, empty_at, there_at}
+use Rattle.removal.proofs.Descent.{Descending, descent_as, descent_spent, descent_end, descent_low, descent_row, descent_step, descent_start, none_below, place}
 use Rattle.removal.proofs.following.mark_descendants.Statement.{statement}
 use Rattle.removal.proofs.following.mark_descendants.Tie as tie
 
 abbrev invariant-loop : tie.invariant-loop
 invariant-loop t control row mark₀ counts₀ work₀ ready₀ depth next₀ left₀ mark counts work ready next left =
-    (S : ℕ → Bool) × Marks edition32 (row_count t) (cap_of t) S mark₀ counts₀ work₀ 0 mark counts work ready
-    × Descending edition32 (row_count t) t depth (descendants (read edition32 (record { table = t; control = control })).forest row) next left S
+    (S : ℕ → Bool) × Marks (row_count t) (cap_of t) S mark₀ counts₀ work₀ 0 mark counts work ready
+    × Descending (row_count t) t depth (descendants (read edition32 (record { table = t; control = control })).forest row) next left S
 
 abbrev decreases-loop : tie.decreases-loop
 decreases-loop t control row mark₀ counts₀ work₀ ready₀ depth next₀ left₀ mark counts work ready next left = left
@@ -34,7 +33,7 @@ abbrev from : Turn → tie.Start invariant-loop decreases-loop
 from l = l.before.before.before.before.before.before.before.before
 
 at_row : (l : Turn) → (l.before.loop.next ≡ 4294967295 → ⊥) → l.before.loop.next < row_count (from l).args.t.now
-at_row l ne = descent_row edition32 _ _ _ _ _ _ _ l.before.loop.inv.2 ne
+at_row l ne = descent_row _ _ _ _ _ _ _ l.before.loop.inv.2 ne
 
 -- the turn that ends with the next row
 abbrev turn : tie.After-word5 invariant-loop decreases-loop → Turn
@@ -44,7 +43,7 @@ word-requires : tie.Need-word-requires invariant-loop decreases-loop
 word-requires c κs = (omega arith, omega (arith, c.before.requires.1.1))
 
 returns : tie.Need-returns invariant-loop decreases-loop
-returns c = let s = c.before.before.before in marks_none edition32 _ _ _ _ _ _ _ (none_below sane32 (given s) s.requires.0 s.args.row (empty_at sane32 (given s) s.requires.0 s.args.row _ c.before.word.ensures c.if1.true)) s.requires.1.0
+returns c = let s = c.before.before.before in marks_none _ _ _ _ _ _ _ (none_below (given s) s.requires.0 s.args.row (empty_at (given s) s.requires.0 s.args.row _ c.before.word.ensures c.if1.true)) s.requires.1.0
 
 word-requires-2 : tie.Need-word-requires-2 invariant-loop decreases-loop
 word-requires-2 c κs = (omega arith, omega (arith, c.before.before.before.requires.1.1))
@@ -60,12 +59,12 @@ loop-holds c =
     let e = c.before.before.before in
     let s = e.before.before.before in (
       λ j. false,
-      marks_none edition32 _ _ _ _ _ _ _ (λ j. refl) s.requires.1.0,
-      descent_as edition32 _ _ _ _ _ _ _ c.before.before.word2.ensures c.before.word3.ensures (descent_start sane32 (given s) s.requires.0 s.args.row (place sane32 (given s) s.requires.0 s.args.row (there_at sane32 (given s) s.requires.0 s.args.row _ e.before.word.ensures e.if1.false))),
+      marks_none _ _ _ _ _ _ _ (λ j. refl) s.requires.1.0,
+      descent_as _ _ _ _ _ _ _ c.before.before.word2.ensures c.before.word3.ensures (descent_start (given s) s.requires.0 s.args.row (place (given s) s.requires.0 s.args.row (there_at (given s) s.requires.0 s.args.row _ e.before.word.ensures e.if1.false))),
     )
 
 returns-2 : tie.Need-returns-2 invariant-loop decreases-loop
-returns-2 c = let i = c.before.before.loop.invariant in marks_as edition32 _ _ _ _ (descent_end edition32 _ _ _ _ _ _ _ i.2 c.if2.true) i.1
+returns-2 c = let i = c.before.before.loop.invariant in marks_as _ _ _ _ (descent_end _ _ _ _ _ _ _ i.2 c.if2.true) i.1
 
 word-requires-4 : tie.Need-word-requires-4 invariant-loop decreases-loop
 word-requires-4 c κs = (omega arith, omega (arith, at_row c.before c.if2.false))
@@ -74,13 +73,13 @@ returns-3 : tie.Need-returns-3 invariant-loop decreases-loop
 returns-3 c =
     let e = c.before.before in
     let i = e.before.before.loop.invariant in
-    marks_as edition32 _ _ _ _ (descent_low edition32 _ _ _ _ _ _ _ i.2 (omega (arith, c.before.word4.ensures, c.if3.true)) e.if2.false) i.1
+    marks_as _ _ _ _ (descent_low _ _ _ _ _ _ _ i.2 (omega (arith, c.before.word4.ensures, c.if3.true)) e.if2.false) i.1
 
 mark-row-requires : tie.Need-mark-row-requires invariant-loop decreases-loop
 mark-row-requires c κs =
     let e = c.before.before.before.before.before in
     let s = from e.before in
-    (nodes sane32 (given s) s.pre.0, (e.before.before.loop.invariant.1.counted, at_row e.before e.if2.false))
+    (nodes (given s) s.pre.0, (e.before.before.loop.invariant.1.counted, at_row e.before e.if2.false))
 
 word-requires-5 : tie.Need-word-requires-5 invariant-loop decreases-loop
 word-requires-5 c κs =
@@ -99,12 +98,12 @@ loop-again c =
     let e = g.before.before in
     let i = e.before.before.loop.invariant in (
       _,
-      marks_then edition32 _ _ i.0 _ _ (λ j. refl) i.1 c.before.mark-row.ensures,
-      descent_as edition32 _ _ _ _ _ _ _ refl c.word5.ensures (descent_step edition32 _ _ _ _ _ _ _ i.2 e.if2.false (omega (arith, g.before.word4.ensures, g.if3.false))),
+      marks_then _ _ i.0 _ _ (λ j. refl) i.1 c.before.mark-row.ensures,
+      descent_as _ _ _ _ _ _ _ refl c.word5.ensures (descent_step _ _ _ _ _ _ _ i.2 e.if2.false (omega (arith, g.before.word4.ensures, g.if3.false))),
     )
 
 returns-4 : tie.Need-returns-4 invariant-loop decreases-loop
-returns-4 c = let i = c.before.loop.invariant in marks_as edition32 _ _ _ _ (descent_spent edition32 _ _ _ _ _ _ _ i.2 (omega (arith, c.loop-test.false))) i.1
+returns-4 c = let i = c.before.loop.invariant in marks_as _ _ _ _ (descent_spent _ _ _ _ _ _ _ i.2 (omega (arith, c.loop-test.false))) i.1
 
 pub mark-descendants-spec : {M : Type 1} → statement M
 mark-descendants-spec =

@@ -9,10 +9,10 @@ use borrow.Author.Tests.{eq-eqb, ne_eqb}
 use Rattle.model.specs.Edition.{edition32, most_rows}
 use Rattle.model.specs.Cap.{is_empty, is_cnode, first_row, slots}
 use Rattle.model.specs.Tables.{cap_of}
-use Rattle.kept.proofs.Allowed.{some_slot}
-use Rattle.algorithms.specs.Marking.{row_count, marked}
-use Rattle.algorithms.proofs.Removal.Marking.{unmarked, is_marked, left_some, room_left}
-use Rattle.algorithms.proofs.Removal.Marks.{marks_empty, marks_old, marks_plain, marks_node, marks_last}
+use Rattle.model.proofs.Kept.Allowed.{some_slot}
+use Rattle.removal.specs.Marking.{row_count, marked}
+use Rattle.removal.proofs.Marking.{unmarked, is_marked, left_some, room_left}
+use Rattle.removal.proofs.Marks.{marks_empty, marks_old, marks_plain, marks_node, marks_last}
 use borrow.Author.Rules.{rules}
 use Rattle.removal.proofs.following.mark_row.Statement.{statement}
 use Rattle.removal.proofs.following.mark_row.Tie as tie
@@ -55,7 +55,7 @@ inside c =
     s.pre.0.inside s.args.row s.pre.1.1 (node_of c) in
     omega (arith, some_slot (cap_of s.args.t.now s.args.row))
 
-small : (c : Node) → c.before.row_of_lem.result.0 < (most_rows edition32)
+small : (c : Node) → c.before.row_of_lem.result.0 < most_rows
 small c = omega (arith, inside c, (cap-known c).before.before.requires.0.few)
 
 new : (c : Node) → marked (cap-known c).before.before.args.mark.now (cap-known c).before.before.args.row ≡ false
@@ -67,22 +67,46 @@ there c = is-there (cap-known c) c.before.before.before.before.before.before.if1
 in-mark : (c : tie.After-cap-at) → c.before.before.args.row < length c.before.before.args.mark.now
 in-mark c = omega (arith, c.before.before.requires.1.0.long, c.before.before.requires.1.1)
 
-room : (c : Node) → (cap-known c).before.before.args.filled < (most_rows edition32)
+room : (c : Node) → (cap-known c).before.before.args.filled < most_rows
 room c =
     let s = (cap-known c).before.before in
-    omega (arith, room_left edition32 (row_count s.args.t.now) (cap_of s.args.t.now) s.args.mark.now s.args.row s.pre.1.1 (in-mark (cap-known c)) (new c) (node_of c) _ (first_of c) s.args.counts.now (inside c) s.args.filled s.pre.1.0, s.pre.0.few)
+    omega (arith, room_left (row_count s.args.t.now) (cap_of s.args.t.now) s.args.mark.now s.args.row s.pre.1.1 (in-mark (cap-known c)) (new c) (node_of c) _ (first_of c) s.args.counts.now (inside c) s.args.filled s.pre.1.0, s.pre.0.few)
+
+cap-at-requires : tie.Need-cap-at-requires
+cap-at-requires c κs = search rules
 
 returns : tie.Need-returns
-returns c = let s = c.before.before.before.before in marks_empty edition32 _ _ _ _ _ _ _ (is-empty c.before.before c.if1.true) s.requires.1.0
+returns c = let s = c.before.before.before.before in marks_empty _ _ _ _ _ _ _ (is-empty c.before.before c.if1.true) s.requires.1.0
+
+mul-if2 : tie.Need-overflow-mul-if2
+mul-if2 c = search rules
+
+element-copy-out-if2 : tie.Need-element-copy-out-if2
+element-copy-out-if2 c = search rules
 
 returns-2 : tie.Need-returns-2
-returns-2 c = let s = c.before.before.before.before.before.before in marks_old edition32 _ _ _ _ _ _ _ (is_marked _ _ c.if2.true) s.requires.1.0
+returns-2 c = let s = c.before.before.before.before.before.before in marks_old _ _ _ _ _ _ _ (is_marked _ _ c.if2.true) s.requires.1.0
+
+mul-mark : tie.Need-overflow-mul-mark
+mul-mark c = search rules
+
+element-write-mark : tie.Need-element-write-mark
+element-write-mark c = search rules
 
 returns-3 : tie.Need-returns-3
 returns-3 c =
     let k = c.before.before.before.before.before.before in
     let s = k.before.before in
-    marks_plain edition32 _ _ _ _ s.requires.1.1 (in-mark k) (unmarked _ _ c.before.before.if2.false) (is-there k c.before.before.before.before.if1.false) _ _ _ (is_plain k c.if3.true) s.requires.1.0
+    marks_plain _ _ _ _ s.requires.1.1 (in-mark k) (unmarked _ _ c.before.before.if2.false) (is-there k c.before.before.before.before.if1.false) _ _ _ (is_plain k c.if3.true) s.requires.1.0
+
+row-of-requires : tie.Need-row-of-requires
+row-of-requires c κs = search rules
+
+cast-first : tie.Need-overflow-cast-first
+cast-first c = search rules
+
+mul_left : tie.Need-overflow-mul-left
+mul_left c = search rules
 
 element-copy-out-left : tie.Need-element-copy-out-left
 element-copy-out-left c = small c
@@ -90,7 +114,10 @@ element-copy-out-left c = small c
 sub-left : tie.Need-overflow-sub-left
 sub-left c =
     let s = (cap-known c.before).before.before in
-    omega (arith, left_some edition32 (row_count s.args.t.now) (cap_of s.args.t.now) s.args.mark.now s.args.row s.pre.1.1 (in-mark (cap-known c.before)) (new c.before) (node_of c.before) _ (first_of c.before) s.args.counts.now (inside c.before) s.args.filled s.pre.1.0)
+    omega (arith, left_some (row_count s.args.t.now) (cap_of s.args.t.now) s.args.mark.now s.args.row s.pre.1.1 (in-mark (cap-known c.before)) (new c.before) (node_of c.before) _ (first_of c.before) s.args.counts.now (inside c.before) s.args.filled s.pre.1.0)
+
+mul-counts : tie.Need-overflow-mul-counts
+mul-counts c = search rules
 
 element-write-counts : tie.Need-element-write-counts
 element-write-counts c = small c.before
@@ -99,7 +126,7 @@ returns-4 : tie.Need-returns-4
 returns-4 c =
     let k = c.before.before in
     let s = (cap-known k).before.before in
-    marks_node edition32 _ _ _ _ s.pre.1.1 (in-mark (cap-known k)) (new k) (there k) _ _ _ _ (node_of k) (first_of k) (inside k) s.pre.1.0 c.if4.true
+    marks_node _ _ _ _ s.pre.1.1 (in-mark (cap-known k)) (new k) (there k) _ _ _ _ (node_of k) (first_of k) (inside k) s.pre.1.0 c.if4.true
 
 mul-work : tie.Need-overflow-mul-work
 mul-work c = omega (arith, room c.before.before)
@@ -114,26 +141,26 @@ returns-5 : tie.Need-returns-5
 returns-5 c =
     let k = c.before.before in
     let s = (cap-known k).before.before in
-    marks_last edition32 _ _ _ _ s.pre.1.1 (in-mark (cap-known k)) (new k) (there k) _ _ _ _ (node_of k) (first_of k) (inside k) s.pre.1.0 c.if4.false
+    marks_last _ _ _ _ s.pre.1.1 (in-mark (cap-known k)) (new k) (there k) _ _ _ _ (node_of k) (first_of k) (inside k) s.pre.1.0 c.if4.false
 
 pub mark-row-spec : {M : Type 1} → statement M
 mark-row-spec =
     tie.close
     (tie.spec
-    (λ c κs. search rules)
+    cap-at-requires
     returns
-    (λ c. search rules)
-    (λ c. search rules)
+    mul-if2
+    element-copy-out-if2
     returns-2
-    (λ c. search rules)
-    (λ c. search rules)
+    mul-mark
+    element-write-mark
     returns-3
-    (λ c κs. search rules)
-    (λ c. search rules)
-    (λ c. search rules)
+    row-of-requires
+    cast-first
+    mul_left
     element-copy-out-left
     sub-left
-    (λ c. search rules)
+    mul-counts
     element-write-counts
     returns-4
     mul-work

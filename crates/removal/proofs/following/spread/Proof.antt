@@ -3,28 +3,28 @@
 use Prim.Native.Nat.{◌-◌, ◌<◌}
 use native.Mathlib.Omega.{arith}
 use lib.ListN.{get_or}
-use Rattle.model.specs.Edition.{edition32, most_rows}
+use Rattle.model.specs.Edition.{most_rows}
 use Rattle.model.specs.Tables.{cap_of}
-use Rattle.algorithms.specs.Marking.{row_count, Counted, Waiting, Lost}
-use Rattle.algorithms.proofs.Removal.Marking.{counted_few}
-use Rattle.algorithms.proofs.Removal.Spreading.{Growing, growing_none, growing_node, waiting_next, spread_all}
+use Rattle.removal.specs.Marking.{row_count, Counted, Waiting, Lost}
+use Rattle.removal.proofs.Marking.{counted_few}
+use Rattle.removal.proofs.Spreading.{Growing, growing_none, growing_node, waiting_next, spread_all}
 use Rattle.removal.proofs.following.spread.Statement.{statement}
 use Rattle.removal.proofs.following.spread.Tie as tie
 
 abbrev invariant-loop : tie.invariant-loop
 invariant-loop t mark₀ counts₀ work₀ filled ready₀ taken₀ mark counts work ready taken =
-    Counted edition32 (row_count t) (cap_of t) mark counts ready × Waiting edition32 (row_count t) (cap_of t) mark counts work taken ready × Growing edition32 (row_count t) (cap_of t) mark₀ mark
+    Counted (row_count t) (cap_of t) mark counts ready × Waiting (row_count t) (cap_of t) mark counts work taken ready × Growing (row_count t) (cap_of t) mark₀ mark
 
 abbrev decreases-loop : tie.decreases-loop
 decreases-loop t mark₀ counts₀ work₀ filled ready₀ taken₀ mark counts work ready taken = row_count t - taken
 
 loop-holds : tie.Need-loop-init invariant-loop decreases-loop
-loop-holds c = let s = c.before in (s.requires.1.0, s.requires.1.1, growing_none edition32 _ _ s.requires.0 _)
+loop-holds c = let s = c.before in (s.requires.1.0, s.requires.1.1, growing_none _ _ s.requires.0 _)
 
-at : (c : tie.In-loop invariant-loop decreases-loop) → c.before.loop.taken < (most_rows edition32)
+at : (c : tie.In-loop invariant-loop decreases-loop) → c.before.loop.taken < most_rows
 at c = omega (arith, counted_few c.before.loop.invariant.0, c.before.before.before.requires.0.few, c.loop-test.true)
 
-lost : (c : tie.In-loop invariant-loop decreases-loop) → Lost edition32 (row_count c.before.before.before.args.t.now) (cap_of c.before.before.before.args.t.now) c.before.loop.counts (get_or c.before.loop.work c.before.loop.taken 0)
+lost : (c : tie.In-loop invariant-loop decreases-loop) → Lost (row_count c.before.before.before.args.t.now) (cap_of c.before.before.before.args.t.now) c.before.loop.counts (get_or c.before.loop.work c.before.loop.taken 0)
 lost c = c.before.loop.invariant.1.lost c.before.loop.taken (omega arith) c.loop-test.true
 
 mul-node : tie.Need-overflow-mul-node invariant-loop decreases-loop
@@ -50,12 +50,12 @@ loop-again c =
     let n = l.before.before.before.requires.0 in
     let i = l.before.loop.invariant in (
       c.mark-slots.ensures.counted,
-      waiting_next edition32 _ _ n l.before.loop.taken l.loop-test.true (lost l) c.mark-slots.ensures i.1,
-      growing_node edition32 _ _ n _ i.0 (lost l) c.mark-slots.ensures i.2,
+      waiting_next _ _ n l.before.loop.taken l.loop-test.true (lost l) c.mark-slots.ensures i.1,
+      growing_node _ _ n _ i.0 (lost l) c.mark-slots.ensures i.2,
     )
 
 returns : tie.Need-returns invariant-loop decreases-loop
-returns c = let i = c.before.loop.invariant in spread_all edition32 _ _ c.before.before.before.requires.0 c.before.loop.taken c.loop-test.false i.0 i.1 i.2
+returns c = let i = c.before.loop.invariant in spread_all _ _ c.before.before.before.requires.0 c.before.loop.taken c.loop-test.false i.0 i.1 i.2
 
 pub spread-spec : {M : Type 1} → statement M
 spread-spec =

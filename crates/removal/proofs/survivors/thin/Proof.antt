@@ -8,18 +8,17 @@ use borrow.Author.Rules.{rules}
 use lib.ListN.{length, get_or, set}
 use Rattle.model.specs.Edition.{edition32, most_rows}
 use Rattle.model.specs.Stores.{unlinked}
-use Rattle.words.proofs.Figures.{sane32}
-use Rattle.kept.proofs.Bounds.{rows_small, table_long_lem}
-use Rattle.algorithms.specs.Marking.{marked}
-use Rattle.algorithms.proofs.Removal.Marking.{unmarked, is_marked}
-use Rattle.algorithms.proofs.Removal.Walking.{Walked, walk_row, walk_small, walk_level, walk_long, walk_few, walk_fit, walk_as, walk_drop, walk_keep}
-use Rattle.algorithms.proofs.Removal.Tables.{whole, zeros, rows_of_tables, walk_start, thins}
+use Rattle.model.proofs.Words.Bounds.{rows_small, table_long_lem}
+use Rattle.removal.specs.Marking.{marked}
+use Rattle.removal.proofs.Marking.{unmarked, is_marked}
+use Rattle.removal.proofs.Walking.{Walked, walk_row, walk_small, walk_level, walk_long, walk_few, walk_fit, walk_as, walk_drop, walk_keep}
+use Rattle.removal.proofs.Tables.{whole, zeros, rows_of_tables, walk_start, thins}
 use Rattle.removal.proofs.survivors.thin.Statement.{statement}
 use Rattle.removal.proofs.survivors.thin.Tie as tie
 
 abbrev invariant-loop : tie.invariant-loop
 invariant-loop t₀ control mark total low₀ row₀ left₀ last₀ head₀ kept₀ t low row left last head kept =
-    Walked edition32 (rows_of_tables edition32 (record { table = t₀; control = control })) total (marked mark) (whole edition32 mark low₀ (record { table = t₀; control = control })) t low row left last head kept
+    Walked edition32 (rows_of_tables (record { table = t₀; control = control })) total (marked mark) (whole mark low₀ (record { table = t₀; control = control })) t low row left last head kept
 
 abbrev decreases-loop : tie.decreases-loop
 decreases-loop t₀ control mark total low₀ row₀ left₀ last₀ head₀ kept₀ t low row left last head kept = left
@@ -28,10 +27,10 @@ decreases-loop t₀ control mark total low₀ row₀ left₀ last₀ head₀ kep
 abbrev Turn : Type 0
 Turn = tie.In-loop invariant-loop decreases-loop
 
-at_row : (l : Turn) → l.before.loop.row < (most_rows edition32)
+at_row : (l : Turn) → l.before.loop.row < most_rows
 at_row l =
     let s = l.before.before.before.before.before in
-    omega (arith, walk_row _ _ _ _ _ _ _ _ _ _ _ _ l.before.loop.inv l.loop-test.taken, rows_small sane32 (record { table = s.args.t.now; control = s.args.control.now }) s.pre)
+    omega (arith, walk_row _ _ _ _ _ _ _ _ _ _ _ _ l.before.loop.inv l.loop-test.taken, rows_small (record { table = s.args.t.now; control = s.args.control.now }) s.pre)
 
 in_table : (l : Turn) → l.before.loop.row * 8 + 8 ≤ length l.before.loop.t
 in_table l = omega (arith, walk_row _ _ _ _ _ _ _ _ _ _ _ _ l.before.loop.inv l.loop-test.taken, walk_long _ _ _ _ _ _ _ _ _ _ _ _ l.before.loop.inv)
@@ -43,7 +42,7 @@ Read = tie.After-word2 invariant-loop decreases-loop
 abbrev turn : Read → Turn
 turn c = c.before.before.before.before
 
-depth_small : (c : Read) → c.word2.result < (most_rows edition32)
+depth_small : (c : Read) → c.word2.result < most_rows
 depth_small c = omega (arith, c.word2.ensures, walk_small _ _ _ _ _ _ _ _ _ _ _ _ (turn c).before.loop.invariant (turn c).loop-test.true)
 
 element-copy-out-total : tie.Need-element-copy-out-total invariant-loop decreases-loop
@@ -53,7 +52,7 @@ element-copy-out-row : tie.Need-element-copy-out-row invariant-loop decreases-lo
 element-copy-out-row c = search rules
 
 loop-holds : tie.Need-loop-init invariant-loop decreases-loop
-loop-holds c = let s = c.before.before.before in walk_start sane32 (record { table = s.args.t.now; control = s.args.control.now }) s.requires _ _ (zeros ((most_rows edition32) + 1))
+loop-holds c = let s = c.before.before.before in walk_start (record { table = s.args.t.now; control = s.args.control.now }) s.requires _ _ (zeros (most_rows + 1))
 
 word-requires : tie.Need-word-requires invariant-loop decreases-loop
 word-requires c κs = (omega arith, in_table c.before)
@@ -150,12 +149,12 @@ sub-result c = omega (arith, walk_fit _ _ _ _ _ _ _ _ _ _ _ _ c.before.loop.inva
 same_length : tie.Need-same-length invariant-loop decreases-loop
 same_length c =
     let s = c.before.before.before.before.before in
-    walk_long _ _ _ _ _ _ _ _ _ _ _ _ c.before.loop.invariant ∙ sym (table_long_lem sane32 (record { table = s.args.t.now; control = s.args.control.now }) s.requires)
+    walk_long _ _ _ _ _ _ _ _ _ _ _ _ c.before.loop.invariant ∙ sym (table_long_lem (record { table = s.args.t.now; control = s.args.control.now }) s.requires)
 
 returns : tie.Need-returns invariant-loop decreases-loop
 returns c =
     let s = c.before.before.before.before.before in
-    thins sane32 (record { table = s.args.t.now; control = s.args.control.now }) s.requires _ _ _ (zeros ((most_rows edition32) + 1)) _ _ _ _ _ _ c.before.loop.invariant (omega (arith, c.loop-test.false))
+    thins (record { table = s.args.t.now; control = s.args.control.now }) s.requires _ _ _ (zeros (most_rows + 1)) _ _ _ _ _ _ c.before.loop.invariant (omega (arith, c.loop-test.false))
 
 pub thin-spec : {M : Type 1} → statement M
 thin-spec =

@@ -36,6 +36,9 @@ cast-pow2 c = omega (arith, c.exponent.ensures, exponent_small _ _ c.before.befo
 pow2-requires : tie.Need-pow2-requires invariant-loop decreases-loop
 pow2-requires c κs = omega (arith, c.exponent.ensures, exponent_small _ _ c.before.before.requires.known)
 
+cast-at : tie.Need-overflow-cast-at invariant-loop decreases-loop
+cast-at c = search rules
+
 loop-holds : tie.Need-loop-init invariant-loop decreases-loop
 loop-holds c =
     let u = c.before in
@@ -93,7 +96,7 @@ link-new-spec =
     exponent-requires
     cast-pow2
     pow2-requires
-    (λ c. search rules)
+    cast-at
     loop-holds
     cast-byte
     new-cap-requires

@@ -8,6 +8,9 @@ use borrow.Author.Rules.{rules}
 use Rattle.retype.proofs.memory.memory_for.Statement.{statement}
 use Rattle.retype.proofs.memory.memory_for.Tie as tie
 
+exponent-requires : tie.Need-exponent-requires
+exponent-requires c κs = search rules
+
 small : (k : tie.After-exponent) → k.exponent.result ≤ 34
 small k = rw k.exponent.ensures (exponent_small _ _ k.before.requires.known)
 
@@ -16,6 +19,18 @@ few k = rw k.bytes_of.ensures (bytes_small _ k.before.before.requires.small)
 
 cast-e : tie.Need-overflow-cast-e
 cast-e c = omega (arith, small c)
+
+bytes-of-requires : tie.Need-bytes-of-requires
+bytes-of-requires c κs = search rules
+
+sub-free : tie.Need-overflow-sub-free
+sub-free c = search rules
+
+cast-window : tie.Need-overflow-cast-window
+cast-window c = search rules
+
+cast-if1 : tie.Need-overflow-cast-if1
+cast-if1 c = search rules
 
 shr-if1 : tie.Need-overflow-shr-if1
 shr-if1 c = omega (arith, small c.before.before)
@@ -42,12 +57,12 @@ pub memory-for-spec : {M : Type 1} → statement M
 memory-for-spec =
     tie.close
     (tie.spec
-    (λ c κs. search rules)
+    exponent-requires
     cast-e
-    (λ c κs. search rules)
-    (λ c. search rules)
-    (λ c. search rules)
-    (λ c. search rules)
+    bytes-of-requires
+    sub-free
+    cast-window
+    cast-if1
     shr-if1
     cast-short
     returns

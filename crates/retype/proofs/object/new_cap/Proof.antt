@@ -32,8 +32,17 @@ fields : (object size s rights : ℕ) (a : Address) → s ≡ shownSize object s
 unfolding new_cap
 fields object size s rights a p q = rw (p, q)
 
+exponent-requires : tie.Need-exponent-requires
+exponent-requires c κs = search rules
+
 cast-shown : tie.Need-overflow-cast-shown
 cast-shown c = omega (arith, c.exponent.ensures, exponent_small _ _ c.before.before.requires)
+
+add-kind : tie.Need-overflow-add-kind
+add-kind c = search rules
+
+rights-of-requires : tie.Need-rights-of-requires
+rights-of-requires c κs = search rules
 
 returns : tie.Need-returns
 returns c =
@@ -43,4 +52,4 @@ returns c =
 
 pub new-cap-spec : {M : Type 1} → statement M
 new-cap-spec =
-    tie.close (tie.spec (λ c κs. search rules) cast-shown (λ c. search rules) (λ c κs. search rules) returns)
+    tie.close (tie.spec exponent-requires cast-shown add-kind rights-of-requires returns)

@@ -17,6 +17,9 @@ returns-2 : tie.Need-returns-2
 unfolding sized
 returns-2 c = stops _ _ _ (lt-ltb _ _ c.if2.true) ∙ passes _ _ _ (le-ltb _ _ c.before.if1.false)
 
+size-barred-requires : tie.Need-size-barred-requires
+size-barred-requires c κs = search rules
+
 returns-3 : tie.Need-returns-3
 unfolding sized refuse
 returns-3 c =
@@ -31,4 +34,4 @@ returns-4 c =
 
 pub sized-spec : {M : Type 1} → statement M
 sized-spec =
-    tie.close (tie.spec returns returns-2 (λ c κs. search rules) returns-3 returns-4)
+    tie.close (tie.spec returns returns-2 size-barred-requires returns-3 returns-4)

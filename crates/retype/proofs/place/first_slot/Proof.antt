@@ -19,8 +19,26 @@ tested n = n.before.before.before.before
 abbrev start : tie.After-node → tie.Start
 start n = (tested n).before.before
 
+sized-requires : tie.Need-sized-requires
+sized-requires c κs = search rules
+
+enum-known-judged : tie.Need-enum-known-judged
+enum-known-judged c = search rules
+
 returns : tie.Need-returns
 returns c = first_barred _ _ _ _ (ap of_judged (sym c.before.judged.given.1) ∙ c.before.before.before.sized.ensures)
+
+enum_told : tie.Need-enum-told
+enum_told c = search rules
+
+node-requires : tie.Need-node-requires
+node-requires c κs = search rules
+
+enum-known-taker : tie.Need-enum-known-taker
+enum-known-taker c = search rules
+
+enum-known-taker-2 : tie.Need-enum-known-taker-2
+enum-known-taker-2 c = search rules
 
 -- the type and the size have passed
 judged : (k : tie.After-node) → passed tt ≡ sized edition32 (start k).args.q.object (start k).args.q.size
@@ -46,13 +64,13 @@ pub first-slot-spec : {M : Type 1} → statement M
 first-slot-spec =
     tie.close
     (tie.spec
-    (λ c κs. search rules)
-    (λ c. search rules)
+    sized-requires
+    enum-known-judged
     returns
-    (λ c. search rules)
-    (λ c κs. search rules)
-    (λ c. search rules)
-    (λ c. search rules)
+    enum_told
+    node-requires
+    enum-known-taker
+    enum-known-taker-2
     vacant-window-requires
     returns-2
     returns-3)

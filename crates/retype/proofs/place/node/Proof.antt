@@ -11,8 +11,17 @@ use Rattle.retype.proofs.place.node.Tie as tie
 returns : tie.Need-returns
 returns c = node_root _ _ _ c.before.if1.true
 
+find-requires : tie.Need-find-requires
+find-requires c κs = search rules
+
+enum-known-found : tie.Need-enum-known-found
+enum-known-found c = search rules
+
 cap-at-requires : tie.Need-cap-at-requires
 cap-at-requires c κs = c.before.before.before.find.ensures.inside _ c.before.found.given.1
+
+enum-known-found-2 : tie.Need-enum-known-found-2
+enum-known-found-2 c = search rules
 
 returns-2 : tie.Need-returns-2
 returns-2 c =
@@ -30,9 +39,9 @@ node-spec =
     tie.close
     (tie.spec
     returns
-    (λ c κs. search rules)
-    (λ c. search rules)
+    find-requires
+    enum-known-found
     cap-at-requires
-    (λ c. search rules)
+    enum-known-found-2
     returns-2
     returns-3)

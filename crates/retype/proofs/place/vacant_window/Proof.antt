@@ -11,6 +11,12 @@ use Rattle.retype.proofs.place.vacant_window.Tie as tie
 window-requires : tie.Need-window-requires
 window-requires c κs = node_room _ _ c.before.requires.0 c.before.requires.1
 
+enum-known-found : tie.Need-enum-known-found
+enum-known-found c = search rules
+
+enum-known-found-2 : tie.Need-enum-known-found-2
+enum-known-found-2 c = search rules
+
 any-taken-requires : tie.Need-any-taken-requires
 any-taken-requires c κs = (
   c.before.before.before.before.before.requires.0,
@@ -36,8 +42,8 @@ vacant-window-spec =
     tie.close
     (tie.spec
     window-requires
-    (λ c. search rules)
-    (λ c. search rules)
+    enum-known-found
+    enum-known-found-2
     any-taken-requires
     returns
     returns-2

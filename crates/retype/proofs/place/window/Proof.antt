@@ -9,7 +9,7 @@ use lib.Dec.{eqb, ltb}
 use lib.Pow.{pow_pos}
 use borrow.Author.Rules.{rules}
 use borrow.Author.Tests.{eq-eqb, ne_eqb}
-use Rattle.model.specs.Edition.{edition32, most_rows}
+use Rattle.model.specs.Edition.{most_rows}
 use Rattle.model.specs.Cap.{slots, first_row}
 use Rattle.retype.proofs.Windows.{node_kind, no_node, radix_small, offset_beyond, window_out, window_wide, window_fits}
 use Rattle.retype.proofs.place.window.Statement.{statement}
@@ -22,7 +22,7 @@ slots-of-requires : tie.Need-slots-of-requires
 slots-of-requires c κs = omega (arith, radix_small _ c.before.before.requires c.if1.false)
 
 -- the slots that are there
-few : (c : tie.After-slots-of) → c.slots-of.result ≤ (most_rows edition32)
+few : (c : tie.After-slots-of) → c.slots-of.result ≤ most_rows
 few c = omega (arith, c.slots-of.ensures, c.before.before.before.requires (node_kind _ c.before.if1.false))
 
 cast-slots : tie.Need-overflow-cast-slots
@@ -55,10 +55,16 @@ start k = (counted k).before.before.before
 fair : (k : tie.Else4) → (eqb (start k).args.q.window 0 || ltb 256 (start k).args.q.window) ≡ false
 fair k = rw (ne_eqb _ _ k.before.before.if3.false, k.if4.false)
 
+sub-room : tie.Need-overflow-sub-room
+sub-room c = search rules
+
 returns-4 : tie.Need-returns-4
 returns-4 c =
     let k : tie.Else4 = c.before.before.before in
     window_wide _ _ _ (counted k).slots-of.ensures (counted k).before.if1.false (there k).if2.false (fair k) c.if5.true
+
+row-of-requires : tie.Need-row-of-requires
+row-of-requires c κs = search rules
 
 add_row : tie.Need-overflow-add-row
 unfolding first_row
@@ -83,8 +89,8 @@ window-spec =
     sub-last
     returns-2
     returns-3
-    (λ c. search rules)
+    sub-room
     returns-4
-    (λ c κs. search rules)
+    row-of-requires
     add_row
     returns-5)

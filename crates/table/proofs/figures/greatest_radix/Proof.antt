@@ -1,16 +1,15 @@
 -- The smaller of 8 and m - 5, by cases.
 use native.Mathlib.Omega.{arith}
 use Rattle.model.specs.Rules.{greatest_r}
-use Rattle.words.proofs.Figures.{sane32}
-use Rattle.kept.proofs.Bounds.{m_least}
+use Rattle.model.proofs.Words.Bounds.{m_least}
 use Rattle.table.proofs.figures.greatest_radix.Statement.{statement}
 use Rattle.table.proofs.figures.greatest_radix.Tie as tie
 
 sub-room : tie.Need-overflow-sub-room
-sub-room c = omega (arith, m_least sane32 _ c.requires)
+sub-room c = omega (arith, m_least _ c.requires)
 
 sub-room-2 : tie.Need-overflow-sub-room-2
-sub-room-2 c = omega (arith, m_least sane32 _ c.requires)
+sub-room-2 c = omega (arith, m_least _ c.requires)
 
 returns : tie.Need-returns
 unfolding greatest_r

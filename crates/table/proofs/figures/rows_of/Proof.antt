@@ -1,20 +1,19 @@
 -- The power of two fits a word.
 use native.Mathlib.Omega.{arith}
 use Rattle.model.specs.Tables.{rows}
-use Rattle.words.proofs.Figures.{sane32}
-use Rattle.kept.proofs.Bounds.{m_least, m_most, rows_most}
+use Rattle.model.proofs.Words.Bounds.{m_least, m_most, rows_most}
 use Rattle.table.proofs.figures.rows_of.Statement.{statement}
 use Rattle.table.proofs.figures.rows_of.Tie as tie
 
 sub-pow2 : tie.Need-overflow-sub-pow2
-sub-pow2 c = omega (arith, m_least sane32 _ c.requires)
+sub-pow2 c = omega (arith, m_least _ c.requires)
 
 pow2-requires : tie.Need-pow2-requires
-pow2-requires c κs = omega (arith, m_most sane32 _ c.requires)
+pow2-requires c κs = omega (arith, m_most _ c.requires)
 
 cast-result : tie.Need-overflow-cast-result
 unfolding rows
-cast-result c = omega (arith, c.pow2.ensures, rows_most sane32 _ c.before.requires)
+cast-result c = omega (arith, c.pow2.ensures, rows_most _ c.before.requires)
 
 returns : tie.Need-returns
 unfolding rows

@@ -1,6 +1,5 @@
 -- The stores are those of `Stored`; where the entry is the first one, the head of the list goes with it.
 use borrow.Author.Rules.{rules}
-use Rattle.model.specs.Edition.{edition32}
 use Rattle.model.specs.Tables.{lent}
 use Rattle.transfer.proofs.Stored.{moves_first, moves_later}
 use Rattle.transfer.proofs.shifts.shift.Statement.{statement}
@@ -26,33 +25,57 @@ next l = (last l).before.before
 abbrev start : tie.After-link → tie.Start
 start l = (next l).before.before.before
 
+word-requires : tie.Need-word-requires
+word-requires c κs = search rules
+
+word-requires-2 : tie.Need-word-requires-2
+word-requires-2 c κs = search rules
+
+word-requires-3 : tie.Need-word-requires-3
+word-requires-3 c κs = search rules
+
+link-requires : tie.Need-link-requires
+link-requires c κs = search rules
+
+unlink-requires : tie.Need-unlink-requires
+unlink-requires c κs = search rules
+
+element-write-control : tie.Need-element-write-control
+element-write-control c = search rules
+
+same_length : tie.Need-same-length
+same_length c = search rules
+
 returns : tie.Need-returns
 returns c =
     let u = unlinked c.before in
     let l = linked u in
     let args = (start l).args in
-    moves_first edition32 (lent args.t.now args.control.now) args.from.0 args.to.0 args.c _ _ _ _ _
+    moves_first (lent args.t.now args.control.now) args.from.0 args.to.0 args.c _ _ _ _ _
     (next l).word.ensures (last l).word2.ensures (depth l).word3.ensures l.link.ensures u.unlink.ensures c.if1.true
+
+same-length-2 : tie.Need-same-length-2
+same-length-2 c = search rules
 
 returns-2 : tie.Need-returns-2
 returns-2 c =
     let u = unlinked c.before in
     let l = linked u in
     let args = (start l).args in
-    moves_later edition32 (lent args.t.now args.control.now) args.from.0 args.to.0 args.c _ _ _ _ _
+    moves_later (lent args.t.now args.control.now) args.from.0 args.to.0 args.c _ _ _ _ _
     (next l).word.ensures (last l).word2.ensures (depth l).word3.ensures l.link.ensures u.unlink.ensures c.if1.false
 
 pub shift-spec : {M : Type 1} → statement M
 shift-spec =
     tie.close
     (tie.spec
-    (λ c κs. search rules)
-    (λ c κs. search rules)
-    (λ c κs. search rules)
-    (λ c κs. search rules)
-    (λ c κs. search rules)
-    (λ c. search rules)
-    (λ c. search rules)
+    word-requires
+    word-requires-2
+    word-requires-3
+    link-requires
+    unlink-requires
+    element-write-control
+    same_length
     returns
-    (λ c. search rules)
+    same-length-2
     returns-2)

@@ -46,6 +46,15 @@ words c = c.words_of.ensures ∙ ap (λ (o : Operation). words_of o) (operation 
 returns : tie.Need-returns
 returns c = too_short _ _ _ c.if1.true
 
+row-named-requires : tie.Need-row-named-requires
+row-named-requires c κs = search rules
+
+enum-known-found : tie.Need-enum-known-found
+enum-known-found c = search rules
+
+enum_told : tie.Need-enum-told
+enum_told c = search rules
+
 returns-2 : tie.Need-returns-2
 returns-2 c = not_named _ _ _ c.before.before.before.if1.false _ c.before.before.row_named.ensures _ c.enum_told.given.1
 
@@ -55,8 +64,20 @@ cap-at-requires c κs = service_inside _ _ _ (long c) _ (at c).row_named.ensures
 returns-3 : tie.Need-returns-3
 returns-3 c = empty_service _ _ _ (long (known c.before)) _ (at (known c.before)).row_named.ensures _ (known c.before).before.found.given.1 (ap (λ (d : Cap). d.kind) (sym c.before.before.cap_at_lem.ensures) ∙ c.if2.true)
 
+word-at-requires : tie.Need-word-at-requires
+word-at-requires c κs = search rules
+
+operation-of-requires : tie.Need-operation-of-requires
+operation-of-requires c κs = search rules
+
+invokes-requires : tie.Need-invokes-requires
+invokes-requires c κs = search rules
+
 returns-4 : tie.Need-returns-4
 returns-4 c = other_kind _ _ _ (long (known (service c.before))) _ (at (known (service c.before))).row_named.ensures _ (known (service c.before)).before.found.given.1 (some c.before) (sym (judged c.before) ∙ not-true _ c.if3.true)
+
+words-of-requires : tie.Need-words-of-requires
+words-of-requires c κs = search rules
 
 returns-5 : tie.Need-returns-5
 returns-5 c = short_message _ _ _ (long (known (service c.before.before.before))) _ (at (known (service c.before.before.before))).row_named.ensures _ (known (service c.before.before.before)).before.found.given.1 (some c.before.before.before) (right c.before.before) (subst (λ (n : ℕ). length (entry (service c.before.before.before)).args.message.now < n) (words c.before) c.if4.true)
@@ -69,16 +90,16 @@ asked-spec =
     tie.close
     (tie.spec
     returns
-    (λ c κs. search rules)
-    (λ c. search rules)
-    (λ c. search rules)
+    row-named-requires
+    enum-known-found
+    enum_told
     returns-2
     cap-at-requires
     returns-3
-    (λ c κs. search rules)
-    (λ c κs. search rules)
-    (λ c κs. search rules)
+    word-at-requires
+    operation-of-requires
+    invokes-requires
     returns-4
-    (λ c κs. search rules)
+    words-of-requires
     returns-5
     returns-6)

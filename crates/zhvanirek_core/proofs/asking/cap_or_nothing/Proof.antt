@@ -23,6 +23,36 @@ kind c = c.before.before.before.before
 abbrev start : tie.After-word-at5 → tie.Start
 start c = (kind c).before.before
 
+mul_at : tie.Need-overflow-mul-at
+mul_at c = search rules
+
+word-at-requires : tie.Need-word-at-requires
+word-at-requires c κs = search rules
+
+add-word-at : tie.Need-overflow-add-word-at
+add-word-at c = search rules
+
+word-at-requires-2 : tie.Need-word-at-requires-2
+word-at-requires-2 c κs = search rules
+
+add-word-at-2 : tie.Need-overflow-add-word-at-2
+add-word-at-2 c = search rules
+
+word-at-requires-3 : tie.Need-word-at-requires-3
+word-at-requires-3 c κs = search rules
+
+add-word-at-3 : tie.Need-overflow-add-word-at-3
+add-word-at-3 c = search rules
+
+word-at-requires-4 : tie.Need-word-at-requires-4
+word-at-requires-4 c κs = search rules
+
+add-word-at-4 : tie.Need-overflow-add-word-at-4
+add-word-at-4 c = search rules
+
+word-at-requires-5 : tie.Need-word-at-requires-5
+word-at-requires-5 c κs = search rules
+
 returns : tie.Need-returns
 returns c =
     cap-words (start c).args.table.now (start c).args.row _ _ _ _ _ (kind c).word_at.ensures c.before.before.before.word-at2.ensures c.before.before.word-at3.ensures
@@ -32,14 +62,14 @@ pub cap-or-nothing-spec : {M : Type 1} → statement M
 cap-or-nothing-spec =
     tie.close
     (tie.spec
-    (λ c. search rules)
-    (λ c κs. search rules)
-    (λ c. search rules)
-    (λ c κs. search rules)
-    (λ c. search rules)
-    (λ c κs. search rules)
-    (λ c. search rules)
-    (λ c κs. search rules)
-    (λ c. search rules)
-    (λ c κs. search rules)
+    mul_at
+    word-at-requires
+    add-word-at
+    word-at-requires-2
+    add-word-at-2
+    word-at-requires-3
+    add-word-at-3
+    word-at-requires-4
+    add-word-at-4
+    word-at-requires-5
     returns)

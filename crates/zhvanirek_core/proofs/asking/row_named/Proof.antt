@@ -4,6 +4,12 @@ use borrow.Author.Rules.{rules}
 use Rattle.zhvanirek_core.proofs.asking.row_named.Statement.{statement}
 use Rattle.zhvanirek_core.proofs.asking.row_named.Tie as tie
 
+cap-or-nothing-requires : tie.Need-cap-or-nothing-requires
+cap-or-nothing-requires c κs = search rules
+
+word-at-requires : tie.Need-word-at-requires
+word-at-requires c κs = search rules
+
 named-requires : tie.Need-named-requires
 named-requires c κs = (c.before.before.before.before.requires, rw c.before.cap-or-nothing.ensures (c.before.before.before.before.requires.nodes _))
 
@@ -13,4 +19,4 @@ returns c = rw (← c.before.before.cap-or-nothing.ensures, ← c.before.word_at
 
 pub row-named-spec : {M : Type 1} → statement M
 row-named-spec =
-    tie.close (tie.spec (λ c κs. search rules) (λ c κs. search rules) named-requires returns)
+    tie.close (tie.spec cap-or-nothing-requires word-at-requires named-requires returns)

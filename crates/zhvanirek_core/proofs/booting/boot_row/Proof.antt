@@ -2,15 +2,14 @@
 use Rattle.std.specs.Prelude.{◌+◌, ◌≤◌}
 use mathlib.Core.Logic.{⊎_elim}
 use native.Mathlib.Omega.{arith}
-use Rattle.kept.proofs.Bounds.{m_most, radix_room}
+use Rattle.model.proofs.Words.Bounds.{m_most, radix_room}
 use Rattle.zhvanirek_core.proofs.BootRows.{first_row_lem, empty_row, untyped_row, next_none, next_row_lem}
 use borrow.Author.Rules.{rules}
 use Rattle.zhvanirek_core.proofs.booting.boot_row.Statement.{statement}
 use Rattle.zhvanirek_core.proofs.booting.boot_row.Tie as tie
-use Rattle.words.proofs.Figures.{sane32}
 
 small : (s : tie.Start) → (s.args.r + 5 ≤ s.args.m) × (s.args.m ≤ 16)
-small s = let g = s.requires.0 in (radix_room sane32 _ g.m_in _ g.r_in, m_most sane32 _ g.m_in)
+small s = let g = s.requires.0 in (radix_room _ g.m_in _ g.r_in, m_most _ g.m_in)
 
 sub-t8 : tie.Need-overflow-sub-t8
 sub-t8 c = omega (arith, small c.before)
@@ -33,8 +32,14 @@ add-size c = omega (arith, small c.before.before)
 add-size-2 : tie.Need-overflow-add-size-2
 add-size-2 c = omega (arith, small c.before.before)
 
+add-next : tie.Need-overflow-add-next
+add-next c = search rules
+
 shl-t9 : tie.Need-overflow-shl-t9
 shl-t9 c = omega (arith, small c.before.before.before, c.before.if2.false)
+
+sub-t11 : tie.Need-overflow-sub-t11
+sub-t11 c = search rules
 
 returns-3 : tie.Need-returns-3
 returns-3 c =
@@ -52,7 +57,7 @@ boot-row-spec =
     returns-2
     add-size
     add-size-2
-    (λ c. search rules)
+    add-next
     shl-t9
-    (λ c. search rules)
+    sub-t11
     returns-3)

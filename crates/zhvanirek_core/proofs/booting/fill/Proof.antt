@@ -16,6 +16,21 @@ invariant-loop table₀ m r j₀ table j = (j ≤ length table) × (length table
 abbrev decreases-loop : tie.decreases-loop
 decreases-loop table₀ m r j₀ table j = length table - j
 
+loop-holds : tie.Need-loop-init invariant-loop decreases-loop
+loop-holds c = search rules
+
+boot-word-requires : tie.Need-boot-word-requires invariant-loop decreases-loop
+boot-word-requires c κs = search rules
+
+mul-table : tie.Need-overflow-mul-table invariant-loop decreases-loop
+mul-table c = search rules
+
+slice-write-table : tie.Need-slice-write-table invariant-loop decreases-loop
+slice-write-table c = search rules
+
+add-j : tie.Need-overflow-add-j invariant-loop decreases-loop
+add-j c = search rules
+
 loop-less : tie.Need-loop-smaller invariant-loop decreases-loop
 loop-less c = simp length-set (omega arith)
 
@@ -25,6 +40,9 @@ loop-again c = (
   simp length-set c.before.before.loop.invariant.1,
   one_more c.before.before.loop.table (boot_table c.before.before.before.before.args.m c.before.before.before.before.args.r) _ _ (search rules) c.before.before.loop.invariant.2 c.boot-word.ensures,
 )
+
+same_length : tie.Need-same-length invariant-loop decreases-loop
+same_length c = search rules
 
 returns : tie.Need-returns invariant-loop decreases-loop
 returns c =
@@ -37,12 +55,12 @@ fill_spec =
     (tie.spec
     invariant-loop
     decreases-loop
-    (λ c. search rules)
-    (λ c κs. search rules)
-    (λ c. search rules)
-    (λ c. search rules)
-    (λ c. search rules)
+    loop-holds
+    boot-word-requires
+    mul-table
+    slice-write-table
+    add-j
     loop-less
     loop-again
-    (λ c. search rules)
+    same_length
     returns)

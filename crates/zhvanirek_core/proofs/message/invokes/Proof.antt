@@ -4,6 +4,33 @@ use Rattle.model.specs.Cap.{is_cnode, is_untyped}
 use Rattle.zhvanirek_core.proofs.message.invokes.Statement.{statement}
 use Rattle.zhvanirek_core.proofs.message.invokes.Tie as tie
 
+enum_told : tie.Need-enum-told
+enum_told c = search rules
+
+enum-told-2 : tie.Need-enum-told-2
+enum-told-2 c = search rules
+
+enum-told-3 : tie.Need-enum-told-3
+enum-told-3 c = search rules
+
+enum-told-4 : tie.Need-enum-told-4
+enum-told-4 c = search rules
+
+enum-told-5 : tie.Need-enum-told-5
+enum-told-5 c = search rules
+
+enum-told-6 : tie.Need-enum-told-6
+enum-told-6 c = search rules
+
+enum-told-7 : tie.Need-enum-told-7
+enum-told-7 c = search rules
+
+enum-told-8 : tie.Need-enum-told-8
+enum-told-8 c = search rules
+
+enum-told-9 : tie.Need-enum-told-9
+enum-told-9 c = search rules
+
 returns : tie.Need-returns
 unfolding is_cnode is_untyped
 returns c = rw c.before.enum_told.given.1
@@ -36,19 +63,22 @@ returns-8 : tie.Need-returns-8
 unfolding is_cnode is_untyped
 returns-8 c = rw c.before.enum-told8.given.1
 
+returns-9 : tie.Need-returns-9
+returns-9 c = search rules
+
 pub invokes-spec : {M : Type 1} → statement M
 invokes-spec =
     tie.close
     (tie.spec
-    (λ c. search rules)
-    (λ c. search rules)
-    (λ c. search rules)
-    (λ c. search rules)
-    (λ c. search rules)
-    (λ c. search rules)
-    (λ c. search rules)
-    (λ c. search rules)
-    (λ c. search rules)
+    enum_told
+    enum-told-2
+    enum-told-3
+    enum-told-4
+    enum-told-5
+    enum-told-6
+    enum-told-7
+    enum-told-8
+    enum-told-9
     returns
     returns-2
     returns-3
@@ -57,4 +87,4 @@ invokes-spec =
     returns-6
     returns-7
     returns-8
-    (λ c. search rules))
+    returns-9)

@@ -5,8 +5,17 @@ use borrow.Author.Rules.{rules}
 use Rattle.zhvanirek_core.proofs.message.word_at.Statement.{statement}
 use Rattle.zhvanirek_core.proofs.message.word_at.Tie as tie
 
+mul-result : tie.Need-overflow-mul-result
+mul-result c = search rules
+
+shared-slice-read-result : tie.Need-shared-slice-read-result
+shared-slice-read-result c = search rules
+
+returns : tie.Need-returns
+returns c = search rules
+
 returns-2 : tie.Need-returns-2
 returns-2 c = sym (get_or-eq_default c.before.args.words.now 0 c.if1.false)
 
 pub word-at-spec : {M : Type 1} → statement M
-word-at-spec = tie.close (tie.spec (λ c. search rules) (λ c. search rules) (λ c. search rules) returns-2)
+word-at-spec = tie.close (tie.spec mul-result shared-slice-read-result returns returns-2)

@@ -4,12 +4,11 @@ use native.Mathlib.Omega.{arith}
 use Rattle.model.specs.Edition.{edition32}
 use Rattle.model.specs.Operations.{move}
 use Rattle.lookup.specs.Finds.{of_found}
-use Rattle.algorithms.proofs.Lookup.WellFormed.{ready}
+use Rattle.lookup.proofs.WellFormed.{ready}
 use Rattle.zhvanirek_core.proofs.Performed.{place_reached, two_refused, two_found}
 use borrow.Author.Rules.{rules}
 use Rattle.zhvanirek_core.proofs.performing.moving.Statement.{statement}
 use Rattle.zhvanirek_core.proofs.performing.moving.Tie as tie
-use Rattle.words.proofs.Figures.{sane32}
 
 -- ---- the start, the lookup of the root, the root found, the place of the destination and that of the source, each from a later one
 
@@ -29,7 +28,16 @@ abbrev source : tie.After-relocate-arg2 → tie.After-place2
 source c = c.before.before
 
 row-named-requires : tie.Need-row-named-requires
-row-named-requires c κs = ready sane32 _ c.before.before.before.requires.formed
+row-named-requires c κs = ready _ c.before.before.before.requires.formed
+
+enum-known-found : tie.Need-enum-known-found
+enum-known-found c = search rules
+
+enum-known-found-2 : tie.Need-enum-known-found-2
+enum-known-found-2 c = search rules
+
+place-requires : tie.Need-place-requires
+place-requires c κs = search rules
 
 place-requires-2 : tie.Need-place-requires-2
 place-requires-2 c κs = let r = root c.before in (omega arith, (named r).row_named.ensures.inside _ r.before.found2.given.1)
@@ -40,10 +48,16 @@ relocate-requires c κs =
     let formed = (start (named (root (dest s)))).requires.formed in
     (formed, (place_reached _ formed _ _ _ _ _ (dest s).place.ensures, place_reached _ formed _ _ _ _ _ s.place2.ensures))
 
+same_length : tie.Need-same-length
+same_length c = search rules
+
 returns : tie.Need-returns
 returns c =
     let n = c.before.before.before in
     two_refused _ (start n).requires.formed _ _ _ (λ g d s. move edition32 g d s (start n).args.how) _ (sym n.row_named.ensures.is ∙ ap of_found c.before.found.given.1)
+
+same-length-2 : tie.Need-same-length-2
+same-length-2 c = search rules
 
 returns-2 : tie.Need-returns-2
 returns-2 c =
@@ -59,12 +73,12 @@ moving-spec =
     tie.close
     (tie.spec
     row-named-requires
-    (λ c. search rules)
-    (λ c. search rules)
-    (λ c κs. search rules)
+    enum-known-found
+    enum-known-found-2
+    place-requires
     place-requires-2
     relocate-requires
-    (λ c. search rules)
+    same_length
     returns
-    (λ c. search rules)
+    same-length-2
     returns-2)

@@ -1,12 +1,11 @@
 -- The root, then Retype.
-use Rattle.algorithms.proofs.Lookup.WellFormed.{ready}
+use Rattle.lookup.proofs.WellFormed.{ready}
 use mathlib.Core.Path.{sym, ap, ◌∙◌}
 use Rattle.lookup.specs.Finds.{of_found}
 use Rattle.zhvanirek_core.proofs.Performed.{retypable, retype_refused, retype_found}
 use borrow.Author.Rules.{rules}
 use Rattle.zhvanirek_core.proofs.performing.retyping.Statement.{statement}
 use Rattle.zhvanirek_core.proofs.performing.retyping.Tie as tie
-use Rattle.words.proofs.Figures.{sane32}
 
 -- ---- the start, the lookup of the root, the root found, the request read, each from a later one
 
@@ -23,7 +22,13 @@ abbrev read : tie.After-retype-arg2 → tie.After-retyping
 read c = c.before.before
 
 row-named-requires : tie.Need-row-named-requires
-row-named-requires c κs = ready sane32 _ c.before.before.before.requires.0.formed
+row-named-requires c κs = ready _ c.before.before.before.requires.0.formed
+
+enum-known-found : tie.Need-enum-known-found
+enum-known-found c = search rules
+
+enum-known-found-2 : tie.Need-enum-known-found-2
+enum-known-found-2 c = search rules
 
 retyping-requires : tie.Need-retyping-requires
 retyping-requires c κs = let r = c.before in (named r).row_named.ensures.inside _ r.before.found2.given.1
@@ -33,10 +38,16 @@ retype-requires c κs =
     let s = start (named (root (read c))) in
     retypable _ _ _ s.pre.0.formed s.pre.0.in_table s.pre.1 _ _ (read c).retyping.ensures
 
+same_length : tie.Need-same-length
+same_length c = search rules
+
 returns : tie.Need-returns
 returns c =
     let n = c.before.before.before in
     retype_refused _ (start n).requires.0.formed _ _ _ _ (sym n.row_named.ensures.is ∙ ap of_found c.before.found.given.1)
+
+same-length-2 : tie.Need-same-length-2
+same-length-2 c = search rules
 
 returns-2 : tie.Need-returns-2
 returns-2 c =
@@ -51,11 +62,11 @@ retyping-spec =
     tie.close
     (tie.spec
     row-named-requires
-    (λ c. search rules)
-    (λ c. search rules)
+    enum-known-found
+    enum-known-found-2
     retyping-requires
     retype-requires
-    (λ c. search rules)
+    same_length
     returns
-    (λ c. search rules)
+    same-length-2
     returns-2)

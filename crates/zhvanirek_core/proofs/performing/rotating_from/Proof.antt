@@ -2,12 +2,11 @@
 use mathlib.Core.Path.{sym, ap, ◌∙◌}
 use native.Mathlib.Omega.{arith}
 use Rattle.lookup.specs.Finds.{of_found}
-use Rattle.algorithms.proofs.Lookup.WellFormed.{ready}
+use Rattle.lookup.proofs.WellFormed.{ready}
 use Rattle.zhvanirek_core.proofs.Performed.{place_reached, turn_refused, turn_found}
 use borrow.Author.Rules.{rules}
 use Rattle.zhvanirek_core.proofs.performing.rotating_from.Statement.{statement}
 use Rattle.zhvanirek_core.proofs.performing.rotating_from.Tie as tie
-use Rattle.words.proofs.Figures.{sane32}
 
 -- ---- the start, the lookup of the root, the root found, the places of destination, pivot and source, the data read, each from a later one
 
@@ -33,10 +32,28 @@ abbrev words : tie.After-rotate-arg2 → tie.After-word-at2
 words c = c.before.before
 
 row-named-requires : tie.Need-row-named-requires
-row-named-requires c κs = ready sane32 _ c.before.before.before.requires.0.formed
+row-named-requires c κs = ready _ c.before.before.before.requires.0.formed
+
+enum-known-found : tie.Need-enum-known-found
+enum-known-found c = search rules
+
+enum-known-found-2 : tie.Need-enum-known-found-2
+enum-known-found-2 c = search rules
+
+place-requires : tie.Need-place-requires
+place-requires c κs = search rules
+
+place-requires-2 : tie.Need-place-requires-2
+place-requires-2 c κs = search rules
 
 place-requires-3 : tie.Need-place-requires-3
 place-requires-3 c κs = let r = root (dest c.before) in (omega arith, (named r).row_named.ensures.inside _ r.before.found2.given.1)
+
+word-at-requires : tie.Need-word-at-requires
+word-at-requires c κs = search rules
+
+word-at-requires-2 : tie.Need-word-at-requires-2
+word-at-requires-2 c κs = search rules
 
 rotate-requires : tie.Need-rotate-requires
 rotate-requires c κs =
@@ -50,10 +67,16 @@ rotate-requires c κs =
       ),
     )
 
+same_length : tie.Need-same-length
+same_length c = search rules
+
 returns : tie.Need-returns
 returns c =
     let n = c.before.before.before in
     turn_refused _ (start n).requires.0.formed _ _ _ _ _ (sym n.row_named.ensures.is ∙ ap of_found c.before.found.given.1)
+
+same-length-2 : tie.Need-same-length-2
+same-length-2 c = search rules
 
 returns-2 : tie.Need-returns-2
 returns-2 c =
@@ -71,15 +94,15 @@ rotating-from-spec =
     tie.close
     (tie.spec
     row-named-requires
-    (λ c. search rules)
-    (λ c. search rules)
-    (λ c κs. search rules)
-    (λ c κs. search rules)
+    enum-known-found
+    enum-known-found-2
+    place-requires
+    place-requires-2
     place-requires-3
-    (λ c κs. search rules)
-    (λ c κs. search rules)
+    word-at-requires
+    word-at-requires-2
     rotate-requires
-    (λ c. search rules)
+    same_length
     returns
-    (λ c. search rules)
+    same-length-2
     returns-2)

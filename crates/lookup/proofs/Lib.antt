@@ -1,0 +1,4 @@
+mod Levels
+pub mod WellFormed
+pub mod InTable
+pub mod Finding

@@ -1,0 +1,227 @@
+-- A walk along the rows below a row: what is to come of them, and what comes after them.
+use Prim.Native.Nat.{ℕ, ◌+◌, ◌-◌, ◌≤◌, ◌<◌}
+use mathlib.Core.Path.{◌≡◌, refl, sym, ap, ◌∙◌, subst}
+use mathlib.Core.Bool.{Bool, true, false, not, ◌||◌}
+use mathlib.Core.List.{List, [], ◌∷◌, ◌++◌, map, map-map}
+use native.Mathlib.Omega.{arith}
+use lib.Dec.{eqb}
+use lib.ListN.{get_or, length, length-append}
+use borrow.Author.Tests.{eqb-true, not-true}
+use Rattle.model.specs.Edition.{edition32}
+use Rattle.model.specs.Lists.{any, member}
+use Rattle.model.specs.Cap.{is_empty}
+use Rattle.model.specs.Tree.{Forest, entries, below, cap_at}
+use Rattle.model.specs.Tables.{Tables, Listed, word, cap_of, first_of, read}
+use Rattle.model.specs.Rules.{well_formed}
+use Rattle.model.specs.Operations.{descendants}
+use Rattle.model.proofs.Booleans.{either}
+use Rattle.model.proofs.Members.{All, all_map, Has, has_map, map_has, member_has}
+use Rattle.model.proofs.Distinct.{Distinct}
+use Rattle.model.proofs.State.{rows_of}
+use Rattle.model.proofs.Kept.Forests.{at_has, row_below}
+use Rattle.model.proofs.Kept.Rules.{entry_at, vacant_none}
+use Rattle.model.proofs.Words.Rows.{row_at, rows_in, Holds, Written}
+use Rattle.model.proofs.Words.Listing.{Low}
+use Rattle.model.proofs.Words.WellFormed.{Formed, formed, formed_distinct, formed_written, roomy32, list_in}
+use Rattle.model.proofs.Words.Linking.{middle_below, next_is_lem, depth_is}
+use Rattle.model.proofs.Words.Runs.{raised_run}
+use Rattle.model.proofs.Words.Around.{At, depth_of, at_has as around-at}
+use Rattle.model.proofs.Words.Edited.{listed_of, listed_before, listing_at, listed_under, listed_past, after_is}
+use Rattle.model.proofs.Words.Descendants.{under_deep, past_low, holds_after, all_after, descendants_are}
+use Rattle.model.proofs.Words.Bounds.{rows_small}
+use Rattle.removal.specs.Marking.{only, row_count}
+use Rattle.removal.proofs.Marks.{or_false}
+use Rattle.removal.proofs.Slots.{or_or}
+use Rattle.removal.proofs.Tables.{rows_of_tables, list_read}
+use Rattle.removal.proofs.Nodes.{sound, row_count_lem}
+use Rattle.removal.proofs.Raising.{Raised}
+
+-- us is to come, ps comes after the rows below; S are the rows that are passed, and `all` the rows below
+pub record Descent (n : ℕ) (t : List ℕ) (d : ℕ) (all : List ℕ) (next left : ℕ) (S : ℕ → Bool) (us ps : List Listed) : Type 0 where
+  pub room : n < 4294967295
+  pub before : ℕ
+  pub holds : Holds edition32 (row_at t) before (us ++ ps)
+  pub below : All (λ k. k < n) (rows_in (us ++ ps))
+  pub there : All (λ k. is_empty (cap_of t k) ≡ false) (rows_in us)
+  pub deep : All (λ x. d < x.depth) us
+  pub low : Low (d + 1) ps
+  pub next_is : next ≡ first_of edition32 (us ++ ps)
+  pub fuel : length us ≤ left
+  pub seen : (j : ℕ) → (S j || member j (rows_in us)) ≡ member j all
+
+abbrev pub Descending : (n : ℕ) (t : List ℕ) (d : ℕ) (all : List ℕ) (next left : ℕ) (S : ℕ → Bool) → Type 0
+Descending n t d all next left S = (us : List Listed) × (ps : List Listed) × Descent n t d all next left S us ps
+
+only_eqb : (t : List ℕ) (k j : ℕ) → is_empty (cap_of t k) ≡ false → only (cap_of t) k j ≡ eqb j k
+unfolding only
+only_eqb t k j e = either (eqb j k) (λ u. rw (u, eqb-true j k u, e)) (λ f. rw f)
+
+module _ (n : ℕ) (t : List ℕ) (d : ℕ) (all : List ℕ) (next left : ℕ) (S : ℕ → Bool) where
+  passed : (ps : List Listed) → Descent n t d all next left S [] ps → (j : ℕ) → S j ≡ member j all
+  unfolding member any
+  passed ps w j = or_false (S j) ∙ w.seen j
+
+  deep_first : (u : Listed) (ys : List Listed) (before : ℕ) → Holds edition32 (row_at t) before (u ∷ ys) → next ≡ u.entry.row → word t next 7 ≡ u.depth
+  deep_first u ys before h e = ap (λ k. word t k 7) e ∙ ap (λ r. get_or r 7 0) h.0
+
+  pub descent_as : {d' next' : ℕ} → d' ≡ d → next' ≡ next → Descending n t d all next left S → Descending n t d' all next' left S
+  descent_as p q w = rw (p, q) w
+
+  -- the walk ends where no row is left, where the list ends, and at a row that is not deeper
+  pub descent_spent : Descending n t d all next left S → left ≡ 0 → (j : ℕ) → S j ≡ member j all
+  descent_spent ([], ps, w) h = passed ps w
+  descent_spent (u ∷ us, ps, w) h = absurd (omega (arith, w.fuel))
+
+  pub descent_end : Descending n t d all next left S → next ≡ 4294967295 → (j : ℕ) → S j ≡ member j all
+  unfolding first_of
+  descent_end ([], ps, w) h = passed ps w
+  descent_end (u ∷ us, ps, w) h = absurd (omega (arith, w.next_is, w.below.0, w.room))
+
+  pub descent_low : Descending n t d all next left S → word t next 7 ≤ d → (next ≡ 4294967295 → ⊥) → (j : ℕ) → S j ≡ member j all
+  unfolding first_of
+  descent_low ([], ps, w) h ne = passed ps w
+  descent_low (u ∷ us, ps, w) h ne = absurd (omega (arith, deep_first u (us ++ ps) w.before w.holds w.next_is, w.deep.0))
+
+  pub descent_row : Descending n t d all next left S → (next ≡ 4294967295 → ⊥) → next < n
+  unfolding first_of
+  descent_row ([], [], w) ne = absurd (ne w.next_is)
+  descent_row ([], p ∷ ps, w) ne = omega (arith, w.next_is, w.below.0)
+  descent_row (u ∷ us, ps, w) ne = omega (arith, w.next_is, w.below.0)
+
+  pub descent_step : Descending n t d all next left S → (next ≡ 4294967295 → ⊥) → d < word t next 7 → Descending n t d all (word t next 5) (left - 1) (λ j. S j || only (cap_of t) next j)
+  unfolding first_of member any
+  descent_step ([], [], w) ne h = absurd (ne w.next_is)
+  descent_step ([], p ∷ ps, w) ne h = absurd (omega (arith, deep_first p ps w.before w.holds w.next_is, w.low))
+  descent_step (u ∷ us, ps, w) ne h = (
+    us,
+    ps,
+    record {
+      room = w.room;
+      before = u.entry.row;
+      holds = w.holds.1;
+      below = w.below.1;
+      there = w.there.1;
+      deep = w.deep.1;
+      low = w.low;
+      next_is = ap (λ k. word t k 5) w.next_is ∙ ap (λ r. get_or r 5 0) w.holds.0;
+      fuel = omega (arith, w.fuel);
+      seen = λ j. or_or (S j) (only (cap_of t) next j) (member j (rows_in us)) ∙ ap (λ b. S j || (b || member j (rows_in us))) (ap (λ k. only (cap_of t) k j) w.next_is ∙ only_eqb t u.entry.row j w.there.0) ∙ w.seen j;
+    },
+  )
+
+-- ---- where the walk begins
+
+all_first : (P : ℕ → Type 0) (us ps : List Listed) → All P (rows_in (us ++ ps)) → All P (rows_in us)
+all_first P [] ps a = tt
+all_first P (u ∷ us) ps a = (a.0, all_first P us ps a.1)
+
+longer : (pre : List Listed) (x : Listed) (us ps : List Listed) → length us ≤ length (pre ++ x ∷ (us ++ ps))
+longer pre x us ps = omega (arith, length-append pre (x ∷ (us ++ ps)), length-append us ps)
+
+module _ (t : Tables) (well : well_formed edition32 t ≡ true) (k : ℕ) where
+  abbrev f : Forest
+  f = (read edition32 t).forest
+
+  form : Formed edition32 t (list_in edition32 t)
+  form = formed edition32 roomy32 t well
+
+  -- an empty row has nothing below it
+  pub none_below : is_empty (cap_at f k) ≡ true → (j : ℕ) → member j (descendants f k) ≡ false
+  unfolding descendants
+  none_below e j =
+      either (member j (descendants f k))
+      (λ h. let (y, m, r) = has_map (λ e. e.row) (entries (below f k)) (member_has j (descendants f k) h) in
+      let (x, rx, u) = row_below f k m in
+      absurd (vacant_none (sound t well) k e (at_has u.at) rx))
+      (λ n. n)
+
+  -- the place of an occupied row in the tree
+  pub place : is_empty (cap_at f k) ≡ false → At k f
+  place there = let (e, m, r, q) = entry_at (sound t well) k there in around-at k f (subst (λ j. Has j (rows_of f)) r (map_has (λ e. e.row) m))
+
+  module _ (at : At k f) where
+    abbrev pre : List Listed
+    pre = listed_before at
+
+    abbrev us : List Listed
+    us = listed_under at
+
+    abbrev ps : List Listed
+    ps = listed_past at
+
+    listed : list_in edition32 t ≡ pre ++ listed_of at ∷ (us ++ ps)
+    listed = sym (list_read t well) ∙ listing_at k f at ∙ ap (λ l. pre ++ listed_of at ∷ l) (after_is k f at)
+
+    taken : All (λ j. (j < rows_of_tables t) × (not (is_empty (cap_of t.table j)) ≡ true)) (rows_in (pre ++ listed_of at ∷ (us ++ ps)))
+    taken = subst (λ l. All (λ j. (j < rows_of_tables t) × (not (is_empty (cap_of t.table j)) ≡ true)) (rows_in l)) listed form.chained.taken
+
+    below_all : All (λ j. j < rows_of_tables t) (rows_in (pre ++ listed_of at ∷ (us ++ ps)))
+    below_all = all_map (rows_in (pre ++ listed_of at ∷ (us ++ ps))) (λ j h. h.0) taken
+
+    distinct : Distinct (rows_in (pre ++ listed_of at ∷ (us ++ ps)))
+    distinct = subst (λ l. Distinct (rows_in l)) listed (formed_distinct edition32 t (list_in edition32 t) form)
+
+    written : Written edition32 (rows_of_tables t) t.table (pre ++ listed_of at ∷ (us ++ ps))
+    written = subst (Written edition32 (rows_of_tables t) t.table) listed (formed_written edition32 t (list_in edition32 t) form)
+
+    depth : word t.table k 7 ≡ depth_of 0 at.around
+    depth = subst (λ j. word t.table j 7 ≡ depth_of 0 at.around) at.row (depth_is edition32 (rows_of_tables t) form.room t.table pre (listed_of at) (us ++ ps) below_all distinct written)
+
+    after : word t.table k 5 ≡ first_of edition32 (us ++ ps)
+    after = subst (λ j. word t.table j 5 ≡ first_of edition32 (us ++ ps)) at.row (next_is_lem edition32 (rows_of_tables t) form.room t.table pre (listed_of at) (us ++ ps) below_all distinct written)
+
+    rows_below_lem : rows_in us ≡ descendants f k
+    rows_below_lem = unfold descendants in sym (map-map (λ e. e.row) (λ x. x.entry) us) ∙ ap (map (λ e. e.row)) (descendants_are k f at (sound t well).distinct)
+
+    pub descent_start : Descending (row_count t.table) t.table (word t.table k 7) (descendants f k) (word t.table k 5) (get_or t.control 3 0) (λ j. false)
+    descent_start =
+        rw (row_count_lem t well, depth) (
+          us,
+          ps,
+          record {
+            room = omega (arith, rows_small t well);
+            before = (listed_of at).entry.row;
+            holds = holds_after edition32 (row_at t.table) 4294967295 pre (listed_of at) (us ++ ps) written.holds;
+            below = all_after (λ j. j < rows_of_tables t) pre (listed_of at) (us ++ ps) below_all;
+            there =
+                all_map (rows_in us) (λ j h. not-true (is_empty (cap_of t.table j)) h.1)
+                (all_first (λ j. (j < rows_of_tables t) × (not (is_empty (cap_of t.table j)) ≡ true)) us ps (all_after (λ j. (j < rows_of_tables t) × (not (is_empty (cap_of t.table j)) ≡ true)) pre (listed_of at) (us ++ ps) taken));
+            deep = under_deep k f at;
+            low = past_low k f at;
+            next_is = after;
+            fuel = omega (arith, longer pre (listed_of at) us ps, ap length listed, form.chained.long);
+            seen = λ j. ap (member j) rows_below_lem;
+          },
+        )
+
+    distinct_after : (pre : List Listed) (x : Listed) (post : List Listed) → Distinct (rows_in (pre ++ x ∷ post)) → Distinct (rows_in post)
+    distinct_after [] x post d = d.1
+    distinct_after (q ∷ pre) x post d = distinct_after pre x post d.1
+
+    -- so begins the walk that puts the rows below one up
+    pub raised_start : Raised (row_count t.table) t.table (word t.table k 7) (raised_run t.table (listed_under at)) (word t.table k 5) (get_or t.control 3 0)
+    raised_start =
+        rw (row_count_lem t well, depth) (
+          us,
+          ps,
+          record {
+            room = omega (arith, rows_small t well);
+            long = form.table_long;
+            before = (listed_of at).entry.row;
+            holds = holds_after edition32 (row_at t.table) 4294967295 pre (listed_of at) (us ++ ps) written.holds;
+            distinct = distinct_after pre (listed_of at) (us ++ ps) distinct;
+            below = all_after (λ j. j < rows_of_tables t) pre (listed_of at) (us ++ ps) below_all;
+            deep = under_deep k f at;
+            low = past_low k f at;
+            next_is = after;
+            fuel = omega (arith, longer pre (listed_of at) us ps, ap length listed, form.chained.long);
+            up = refl;
+          },
+        )
+
+    -- there is a row, so the count is not 0
+    pub some_row : 0 < get_or t.control 3 0
+    some_row = omega (arith, length-append pre (listed_of at ∷ (us ++ ps)), ap length listed, form.chained.long)
+
+    pub row_below_n : k < row_count t.table
+    row_below_n = rw (row_count_lem t well) (subst (λ j. j < rows_of_tables t) at.row (middle_below (rows_of_tables t) pre (listed_of at) (us ++ ps) below_all))

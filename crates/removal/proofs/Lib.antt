@@ -1,0 +1,15 @@
+pub mod Thinning
+pub mod Walking
+pub mod Tables
+pub mod Marking
+pub mod Marks
+pub mod Slots
+pub mod Spreading
+pub mod Tallying
+pub mod Nodes
+pub mod Start
+pub mod Removed
+pub mod Raising
+pub mod Descent
+pub mod Elsewhere
+pub mod Cutting

@@ -1,0 +1,79 @@
+-- Marking one set of rows after another; and the slots of a CNode marked one by one.
+use Prim.Native.Nat.{ℕ, ◌+◌, ◌*◌, ◌%◌, ◌^◌, ◌≤◌, ◌<◌}
+use mathlib.Core.Path.{◌≡◌, refl, sym, ap, ◌∙◌}
+use mathlib.Core.Bool.{Bool, true, false, not, ◌&&◌, ◌||◌}
+use mathlib.Core.List.{List}
+use native.Mathlib.Omega.{arith}
+use native.Mathlib.Nat.{one-mul, mod-eq_of_lt}
+use native.Mathlib.Decide.{dec_lt}
+use lib.Pow.{pow_mono}
+use lib.Dec.{leb, ltb, eqb}
+use borrow.Author.Tests.{le-leb, lt-leb, lt-ltb, le-ltb, eq-eqb, ne_eqb}
+use Rattle.model.specs.declared.Cap.{Cap}
+use Rattle.model.specs.Edition.{edition32, most_rows}
+use Rattle.model.specs.Cap.{is_empty, is_cnode, first_row, slots, houses}
+use Rattle.model.proofs.Distinct.{Order, less, same, more, order}
+use Rattle.removal.specs.Marking.{marked, Counted, Marks, only, between, in_node}
+use Rattle.removal.proofs.Marks.{or_false}
+
+pub or_or : (b c d : Bool) → ((b || c) || d) ≡ (b || (c || d))
+or_or true c d = refl
+or_or false c d = refl
+
+module _ (n : ℕ) (cap : ℕ → Cap) where
+  pub marks_none : (S : ℕ → Bool) (mark counts work : List ℕ) (filled : ℕ) → ((j : ℕ) → S j ≡ false) → Counted n cap mark counts filled → Marks n cap S mark counts work filled mark counts work filled
+  marks_none S mark counts work filled none h = record { marks = λ j. rw (none j) (or_false (marked mark j)); more = omega arith; kept = λ i b. refl; counted = h; waiting = λ taken w. w }
+
+  pub marks_then : (S T U : ℕ → Bool) {mark₀ counts₀ work₀ mark₁ counts₁ work₁ mark₂ counts₂ work₂ : List ℕ} {filled₀ filled₁ filled₂ : ℕ} → ((j : ℕ) → (S j || T j) ≡ U j)
+      → Marks n cap S mark₀ counts₀ work₀ filled₀ mark₁ counts₁ work₁ filled₁ → Marks n cap T mark₁ counts₁ work₁ filled₁ mark₂ counts₂ work₂ filled₂
+      → Marks n cap U mark₀ counts₀ work₀ filled₀ mark₂ counts₂ work₂ filled₂
+  marks_then S T U {mark₀ = mark} both a b =
+      record {
+        marks = λ j. b.marks j ∙ ap (λ (c : Bool). c || T j) (a.marks j) ∙ or_or (marked mark j) (S j) (T j) ∙ ap (λ (c : Bool). marked mark j || c) (both j);
+        more = omega (arith, a.more, b.more);
+        kept = λ i l. b.kept i (omega (arith, a.more)) ∙ a.kept i l;
+        counted = b.counted;
+        waiting = λ taken w. b.waiting taken (a.waiting taken w);
+      }
+
+  pub marks_as : (S T : ℕ → Bool) {mark counts work mark' counts' work' : List ℕ} {filled filled' : ℕ} → ((j : ℕ) → S j ≡ T j)
+      → Marks n cap S mark counts work filled mark' counts' work' filled' → Marks n cap T mark counts work filled mark' counts' work' filled'
+  marks_as S T {mark = mark} same-as m = record { marks = λ j. m.marks j ∙ ap (λ (c : Bool). marked mark j || c) (same-as j); more = m.more; kept = m.kept; counted = m.counted; waiting = m.waiting }
+
+module _ (cap : ℕ → Cap) where
+  pub between_none : (first j : ℕ) → between cap first first j ≡ false
+  unfolding between
+  between_none first j = go (order first j)
+    where
+      go : Order first j → (leb first j && ltb j first && not (is_empty (cap j))) ≡ false
+      go (less l) = rw (le-leb first j (omega arith), le-ltb j first (omega arith))
+      go (same e) = rw (le-leb first j (omega arith), le-ltb j first (omega arith))
+      go (more l) = rw (lt-leb first j l)
+
+  pub between_next : (first row j : ℕ) → first ≤ row → (between cap first row j || only cap row j) ≡ between cap first (row + 1) j
+  unfolding between only
+  between_next first row j h = go (order j row)
+    where
+      go : Order j row → ((leb first j && ltb j row && not (is_empty (cap j))) || (eqb j row && not (is_empty (cap j)))) ≡ (leb first j && ltb j (row + 1) && not (is_empty (cap j)))
+      go (less l) = rw (lt-ltb j row l, ne_eqb j row (omega arith), lt-ltb j (row + 1) (omega arith)) (sym (or_false (leb first j && true && not (is_empty (cap j)))))
+      go (same e) = rw (le-ltb j row (omega arith), eq-eqb j row e, lt-ltb j (row + 1) (omega arith), le-leb first j (omega arith))
+      go (more l) = rw (le-ltb j row (omega arith), ne_eqb j row (omega arith), le-ltb j (row + 1) (omega arith)) (sym (or_false (leb first j && false && not (is_empty (cap j)))))
+
+  -- all slots of a CNode
+  pub between_all : (node first end j : ℕ) → is_cnode (cap node) ≡ true → first_row edition32 (cap node) ≡ first → first_row edition32 (cap node) + slots (cap node) ≡ end → between cap first end j ≡ in_node cap node j
+  unfolding between in_node houses
+  between_all node first end j c f e = rw (c, ← f, ← e)
+
+-- ---- how many slots a CNode has, as code computes it
+
+pub radix_small : (c : Cap) → slots c ≤ most_rows → c.size < 32
+unfolding slots
+radix_small c h =
+    elim (dec_lt c.size 32) [
+      | yes l ↦ l
+      | no l ↦ absurd (omega (arith, pow_mono {i = 32} {j = c.size} (omega arith)))
+    ]
+
+pub slots_shifted : (c : Cap) → slots c ≤ most_rows → 1 * 2 ^ c.size % 4294967296 ≡ slots c
+unfolding slots
+slots_shifted c h = mod-eq_of_lt (omega arith) ∙ one-mul (2 ^ c.size)

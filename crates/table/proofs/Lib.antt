@@ -1,0 +1,3 @@
+mod Shift
+mod Children
+mod Objects
