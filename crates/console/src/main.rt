@@ -1,4 +1,5 @@
 // The console: tables and requests as lines of text, from standard input to standard output.
+#![tactic(auto)]
 mod asking; // asking.rt: what a line asks for
 mod command; // command.rt: that it is done
 mod line; // line.rt: a line, read byte by byte

@@ -1,4 +1,5 @@
 // Delete and Revoke on tables that are well-formed.
+#![tactic(auto)]
 pub mod following; // following.rt: which rows go
 pub mod single; // single.rt: a row that goes by itself
 pub mod survivors; // survivors.rt: the rows that stay

@@ -1,4 +1,5 @@
 // The core's face: boot, a request, and the six words of an answer.
+#![tactic(auto)]
 mod asking;
 mod booting;
 mod message;
