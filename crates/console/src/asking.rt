@@ -5,7 +5,7 @@ ghost use Rattle.console.specs.Asking.{by_key, command_of, if_so};
 use crate::line::{Line, says_nothing};
 
 // What a line asks for.
-#[derive(Drop)]
+#[derive(Clone, Copy)]
 pub enum Command {
     Nothing,
     Boot,

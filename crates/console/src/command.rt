@@ -13,7 +13,7 @@ use crate::tree::draw;
 use table::figures::{m_in_range, table_words};
 
 // What is kept from line to line: how many words of the table are lent, and what is to be written.
-#[derive(Drop)]
+#[derive(Clone, Copy)]
 pub struct Desk {
     pub lent: usize,
     pub pen: Pen,

@@ -28,7 +28,7 @@ const HASH: u8 = 35;
 // What is kept of a line, beside its numbers. `key` is 1 and then the bytes of the first word, as the digits of a number to the base 256;
 // `value` is the number that is being read, and `count` numbers came before it. `held` is a carriage return, which belongs to the line
 // only if something comes after it. `bad` is a word that is too long, a number that is none or too great, or a number too many.
-#[derive(Drop)]
+#[derive(Clone, Copy)]
 pub struct Line {
     pub place: u8,
     pub held: bool,
@@ -66,7 +66,7 @@ fn spell(mut line: Line, byte: u8) -> Line
 }
 
 // What bytes say as a number.
-#[derive(Drop)]
+#[derive(Clone, Copy)]
 pub enum Reading {
     Number(u32),
     NoNumber,

@@ -16,7 +16,7 @@ use crate::output::{Pen, flush};
 use libc::STDIN_FILENO;
 
 // What is kept from byte to byte: the line so far, the desk, and whether there is more to read.
-#[derive(Drop)]
+#[derive(Clone, Copy)]
 struct Session {
     line: Line,
     desk: Desk,
@@ -65,7 +65,7 @@ fn feed(
 }
 
 // What a read brought: how many bytes, and whether there may be more.
-#[derive(Drop)]
+#[derive(Clone, Copy)]
 struct Chunk {
     count: usize,
     more: bool,

@@ -5,7 +5,7 @@ ghost use Rattle.console.specs.Writing.{HandsOn, HasRoom, Writes, decimal, space
 use libc::STDOUT_FILENO;
 
 // How many bytes the buffer holds, and whether a write failed.
-#[derive(Drop)]
+#[derive(Clone, Copy)]
 pub struct Pen {
     pub at: usize,
     pub lost: bool,

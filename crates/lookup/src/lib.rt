@@ -92,7 +92,7 @@ pub fn lookup_from(t: &[u32], row: Row, address: u32, depth: u32) -> Looked
 }
 
 // What a place or a message word names: a row, or what the request is told.
-#[derive(Drop)]
+#[derive(Clone, Copy)]
 pub enum Found {
     At(Row),
     Refused(Answer),

@@ -22,7 +22,7 @@ pub fn start(t: &[u32], row: Row, u: Cap) -> u32
 }
 
 // The byte at which the window's objects begin, or what the request is told.
-#[derive(Drop)]
+#[derive(Clone, Copy)]
 pub enum Memory {
     From(u32),
     Refused(Answer),

@@ -55,7 +55,7 @@ pub fn new_cap(object: u32, size: u32, address: Address) -> Cap
 }
 
 // What the object type and size are told.
-#[derive(Drop)]
+#[derive(Clone, Copy)]
 pub enum Judged {
     Passed,
     Barred(Answer),

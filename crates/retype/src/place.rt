@@ -15,7 +15,7 @@ use table::size::slots_of;
 use table::{cap_at, row_of, word};
 
 // What is to take the new capabilities, or what the request is told.
-#[derive(Drop)]
+#[derive(Clone, Copy)]
 pub enum Taker {
     Is(Cap),
     Refused(Answer),
