@@ -34,8 +34,8 @@ fn guard_missed(node: Cap, address: u32, left: u32) -> bool
 
 // The slot that an address names, from a root. Only the low `depth` bits of the address count.
 pub fn lookup(t: &[u32], root: Cap, address: u32, depth: u32) -> Looked
-    requires fact_1 { Ready t.now }
-    requires fact_2 { (is_cnode root ≡ true → Usable t.now root) }
+    requires ready { Ready t.now }
+    requires usable { (is_cnode root ≡ true → Usable t.now root) }
     ensures { result ≡ spec.lookup edition32 (tables.cap_of t.now) root address depth }
 {
     if root.kind != CNODE {
@@ -84,8 +84,8 @@ pub fn lookup(t: &[u32], root: Cap, address: u32, depth: u32) -> Looked
 
 // The same, from the capability in a row.
 pub fn lookup_from(t: &[u32], row: Row, address: u32, depth: u32) -> Looked
-    requires fact_1 { Ready t.now }
-    requires fact_2 { row.0 * 8 + 8 ≤ length t.now }
+    requires ready { Ready t.now }
+    requires inside { row.0 * 8 + 8 ≤ length t.now }
     ensures { result ≡ spec.lookup edition32 (tables.cap_of t.now) (tables.cap_of t.now row.0) address depth }
 {
     lookup(t, cap_at(t, row), address, depth)
@@ -100,8 +100,8 @@ pub enum Found {
 
 // The row that a place names.
 pub fn find(t: &[u32], p: Place) -> Found
-    requires fact_1 { Ready t.now }
-    requires fact_2 { (is_cnode p.root ≡ true → Usable t.now p.root) }
+    requires ready { Ready t.now }
+    requires usable { (is_cnode p.root ≡ true → Usable t.now p.root) }
     ensures { Finds t.now (slot_of edition32 p.source (spec.lookup edition32 (tables.cap_of t.now) p.root p.index p.depth)) result }
 {
     let looked = lookup(t, p.root, p.index, p.depth);
@@ -120,8 +120,8 @@ pub fn find(t: &[u32], p: Place) -> Found
 
 // The row that the address in message word `at` names, from a root and at full depth.
 pub fn named(t: &[u32], root: Cap, address: u32, at: u32) -> Found
-    requires fact_1 { Ready t.now }
-    requires fact_2 { (is_cnode root ≡ true → Usable t.now root) }
+    requires ready { Ready t.now }
+    requires usable { (is_cnode root ≡ true → Usable t.now root) }
     ensures { Finds t.now (or_fault at (spec.lookup edition32 (tables.cap_of t.now) root address 32)) result }
 {
     let looked = lookup(t, root, address, 32);

@@ -1,0 +1,119 @@
+-- `lookup::lookup` meets its contract: at each way out of the loop, the law of `Levels` for it, from the tests that led there.
+-- The measure is the bits left. Assumes nothing.
+use Prim.Native.Nat.{ℕ, ◌+◌, ◌*◌, ◌≤◌, ◌<◌}
+use mathlib.Core.Path.{◌≡◌, sym, ap₂, ◌∙◌}
+use mathlib.Core.Bool.{false}
+use native.Mathlib.Omega.{arith}
+use borrow.Author.Tests.{le-leb, lt-leb, eq-eqb, ne_eqb, ltb-false}
+use lib.ListN.{length}
+use Rattle.model.specs.Edition.{edition32}
+use Rattle.model.specs.Lists.{within}
+use Rattle.model.specs.Cap.{is_cnode, first_row}
+use Rattle.model.specs.Tables.{cap_of}
+use Rattle.model.specs.Lookup.{guard_missed, taken, picked, lookup}
+use Rattle.model.proofs.Booleans.{parts_within}
+use Rattle.lookup.proofs.Levels.{picked_inside, guard_missed_lem, too_deep, done, no_node, node, ends, goes_on}
+use Rattle.lookup.proofs.lookup.Goals as goal
+use Rattle.lookup.proofs.lookup.Goals.{then-depth-lt1-via-else-depth-lt1+then-depth-gt32, then-depth-lt1-via-then-depth-lt1}
+
+-- ---- before the loop
+
+pub returns-then-root-ne-CNODE : goal.returns-then-root-ne-CNODE
+unfolding is_cnode lookup
+returns-then-root-ne-CNODE c = rw (lookup, ne_eqb _ 5 c.if-root-ne-CNODE.true)
+
+pub returns-then-depth-lt1 : goal.returns-then-depth-lt1
+unfolding is_cnode lookup within
+returns-then-depth-lt1 c =
+    rw (lookup, eq-eqb _ 5 c.if-root-ne-CNODE.false)
+    ((elim c.then-depth-lt1.branch [ then-depth-lt1-via-then-depth-lt1 w ↦ rw (lt-leb 1 _ w.if-depth-lt1.true) | then-depth-lt1-via-else-depth-lt1+then-depth-gt32 w ↦ rw (le-leb 1 _ w.if-depth-lt1.false) (rw (lt-leb _ 32 w.if-depth-gt32.true)) ]))
+
+pub loop-node-init : goal.loop-node-init
+unfolding is_cnode lookup
+loop-node-init c =
+    let is = c.if-root-ne-CNODE.false in
+    let least = c.if-depth-lt1.false in
+    let most = ltb-false _ _ c.if-depth-gt32.false-raw in
+    record {
+      usable = c.requires.usable (eq-eqb _ 5 is);
+      some = least;
+      most = most;
+      levels = 32;
+      enough = most;
+      same = rw (lookup, eq-eqb _ 5 is) (rw (parts_within 1 _ 32 least most));
+    }
+
+-- ---- the tests of a level
+
+pub returns-then-missed : goal.returns-then-missed
+returns-then-missed c = ends c.loop-node.invariant (guard_missed_lem _ _ _ _ _ (sym c.guard_missed-missed.ensures ∙ c.if-missed.true))
+
+-- past the guard
+
+-- the head of the loop
+
+pub returns-then-left-taken : goal.returns-then-left-taken
+unfolding taken
+returns-then-left-taken c =
+    let met : guard_missed c.loop-node.node c.args.address c.loop-node.left ≡ false = sym c.guard_missed-missed.ensures ∙ c.if-missed.false in
+    ends c.loop-node.invariant (too_deep _ _ _ _ _ (met) c.if-left-taken.true)
+
+-- ---- where the slot is known
+
+-- the row of the slot
+
+pub overflow_add-row : goal.overflow_add-row
+unfolding first_row picked
+overflow_add-row c =
+    let row : ℕ = c.row_of-first.result.0 + c.field.result in
+    let there : row ≡ picked edition32 c.loop-node.node c.args.address c.loop-node.left = ap₂ ◌+◌ c.row_of-first.ensures c.field.ensures in
+    let inside : row * 8 + 8 ≤ length c.args.t.now = rw (there) (picked_inside _ _ _ _ c.loop-node.invariant.usable) in
+    omega (arith, inside, c.requires.ready.small)
+
+pub returns-then-left-taken-2 : goal.returns-then-left-taken-2
+unfolding first_row picked taken
+returns-then-left-taken-2 c =
+    let met : guard_missed c.loop-node.node c.args.address c.loop-node.left ≡ false = sym c.guard_missed-missed.ensures ∙ c.if-missed.false in
+    let row : ℕ = c.row_of-first.result.0 + c.field.result in
+    let there : row ≡ picked edition32 c.loop-node.node c.args.address c.loop-node.left = ap₂ ◌+◌ c.row_of-first.ensures c.field.ensures in
+    ends c.loop-node.invariant (done _ _ _ _ _ (met) _ (there) c.if-left-taken-2.true)
+
+pub cap_at-next-requires : goal.cap_at-next-requires
+unfolding first_row picked
+cap_at-next-requires c =
+    let row : ℕ = c.row_of-first.result.0 + c.field.result in
+    let there : row ≡ picked edition32 c.loop-node.node c.args.address c.loop-node.left = ap₂ ◌+◌ c.row_of-first.ensures c.field.ensures in
+    let inside : row * 8 + 8 ≤ length c.args.t.now = rw (there) (picked_inside _ _ _ _ c.loop-node.invariant.usable) in
+    inside
+
+-- ---- below the slot
+
+-- the slot's capability is read
+
+pub returns-then-next-ne-CNODE : goal.returns-then-next-ne-CNODE
+unfolding first_row is_cnode picked taken
+returns-then-next-ne-CNODE c =
+    let met : guard_missed c.loop-node.node c.args.address c.loop-node.left ≡ false = sym c.guard_missed-missed.ensures ∙ c.if-missed.false in
+    let deep : taken c.loop-node.node ≤ c.loop-node.left = c.if-left-taken.false in
+    let more : taken c.loop-node.node < c.loop-node.left = omega (arith, deep, c.if-left-taken-2.false) in
+    let row : ℕ = c.row_of-first.result.0 + c.field.result in
+    let there : row ≡ picked edition32 c.loop-node.node c.args.address c.loop-node.left = ap₂ ◌+◌ c.row_of-first.ensures c.field.ensures in
+    let other = rw c.cap_at-next.ensures at c.if-next-ne-CNODE.true in
+    ends c.loop-node.invariant (no_node _ _ _ _ _ (met) _ (there) (more) (ne_eqb _ 5 other))
+
+pub loop-node-preserved : goal.loop-node-preserved
+unfolding first_row is_cnode picked taken
+loop-node-preserved c =
+    let met : guard_missed c.loop-node.node c.args.address c.loop-node.left ≡ false = sym c.guard_missed-missed.ensures ∙ c.if-missed.false in
+    let deep : taken c.loop-node.node ≤ c.loop-node.left = c.if-left-taken.false in
+    let more : taken c.loop-node.node < c.loop-node.left = omega (arith, deep, c.if-left-taken-2.false) in
+    let row : ℕ = c.row_of-first.result.0 + c.field.result in
+    let there : row ≡ picked edition32 c.loop-node.node c.args.address c.loop-node.left = ap₂ ◌+◌ c.row_of-first.ensures c.field.ensures in
+    let next = c.cap_at-next.ensures in
+    let is : (cap_of c.args.t.now row).kind ≡ 5 = rw next at c.if-next-ne-CNODE.false in
+    rw next
+    (goes_on c.loop-node.invariant
+    (node _ _ _ _ _ (met) _ (there) (more) (eq-eqb _ 5 is))
+    (c.requires.ready.nodes (row) (eq-eqb _ 5 is))
+    (omega (arith, more))
+    (omega (arith, more, c.loop-node.invariant.usable.wide)))
