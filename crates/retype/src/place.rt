@@ -23,8 +23,8 @@ pub enum Taker {
 
 // What a place names, at depth 0 its root itself.
 pub fn node(t: &[u32], p: Place) -> Taker
-    requires fact_1 { Ready t.now }
-    requires fact_2 { (cap.is_cnode p.root ≡ true → Usable t.now p.root) }
+    requires ready { Ready t.now }
+    requires usable { (cap.is_cnode p.root ≡ true → Usable t.now p.root) }
     ensures { of_taker result ≡ tests.node_by edition32 (tables.cap_of t.now) p }
 {
     if p.depth == 0 {
@@ -40,8 +40,8 @@ pub fn node(t: &[u32], p: Place) -> Taker
 
 // One of the n rows from the first is occupied.
 pub fn any_taken(t: &[u32], first: Row, n: u32) -> bool
-    requires fact_1 { Ready t.now }
-    requires fact_2 { (first.0 + n) * 8 ≤ length t.now }
+    requires ready { Ready t.now }
+    requires inside { (first.0 + n) * 8 ≤ length t.now }
     ensures { result ≡ tests.taken_by (tables.cap_of t.now) first.0 n }
 {
     let mut k = first.0;
@@ -96,8 +96,8 @@ pub fn window(n: Cap, q: Retyping) -> Found
 
 // The first slot of the window in a node, if all its slots are empty.
 pub fn vacant_window(t: &[u32], n: Cap, q: Retyping) -> Found
-    requires fact_1 { Ready t.now }
-    requires fact_2 { (cap.is_cnode n ≡ true → Usable t.now n) }
+    requires ready { Ready t.now }
+    requires usable { (cap.is_cnode n ≡ true → Usable t.now n) }
     ensures { of_found result ≡ tests.vacant_in edition32 (tables.cap_of t.now) n q }
 {
     let found = window(n, q);
@@ -114,8 +114,8 @@ pub fn vacant_window(t: &[u32], n: Cap, q: Retyping) -> Found
 
 // All tests but that of the memory, and the first slot of the window.
 pub fn first_slot(t: &[u32], q: Retyping) -> Found
-    requires fact_1 { Ready t.now }
-    requires fact_2 { (cap.is_cnode q.into.root ≡ true → Usable t.now q.into.root) }
+    requires ready { Ready t.now }
+    requires usable { (cap.is_cnode q.into.root ≡ true → Usable t.now q.into.root) }
     ensures { of_found result ≡ tests.first_slot edition32 (tables.cap_of t.now) q }
 {
     let judged = sized(q.object, q.size);

@@ -66,8 +66,8 @@ pub fn asked(table: &[u32], caller: u32, message: &[u32]) -> Found
 
 // The index and depth at message word `at`, looked up from the capability in a row.
 pub fn place(table: &[u32], root: Row, message: &[u32], at: usize, source: bool) -> Place
-    requires fact_1 { at ≤ 16 }
-    requires fact_2 { root.0 * 8 + 8 ≤ length table.now }
+    requires in_message { at ≤ 16 }
+    requires inside { root.0 * 8 + 8 ≤ length table.now }
     ensures { result ≡ spec.place (tables.cap_of table.now root.0) message.now at source }
 {
     Place {

@@ -9,8 +9,8 @@ use model::{CNODE, NONE, UNTYPED};
 
 // The eight words of row k.
 fn boot_row(m: u32, r: u32, k: u32) -> [u32; 8]
-    requires fact_1 { Range m r }
-    requires fact_2 { k < tables.rows edition32 m }
+    requires range { Range m r }
+    requires inside { k < tables.rows edition32 m }
     ensures { result ≡ row_at (boot_table m r) k }
 {
     if k == 0 {
@@ -27,8 +27,8 @@ fn boot_row(m: u32, r: u32, k: u32) -> [u32; 8]
 
 // Word j of the table.
 fn boot_word(m: u32, r: u32, j: usize) -> u32
-    requires fact_1 { Range m r }
-    requires fact_2 { j < 8 * tables.rows edition32 m }
+    requires range { Range m r }
+    requires inside { j < 8 * tables.rows edition32 m }
     ensures { result ≡ slice_index (boot_table m r) j }
 {
     let k = j / 8;
@@ -39,8 +39,8 @@ fn boot_word(m: u32, r: u32, j: usize) -> u32
 
 // Every word of the table.
 pub fn fill(table: &mut [u32], m: u32, r: u32)
-    requires fact_1 { Range m r }
-    requires fact_2 { length table.old ≡ 8 * tables.rows edition32 m }
+    requires range { Range m r }
+    requires fits { length table.old ≡ 8 * tables.rows edition32 m }
     ensures { table.new ≡ boot_table m r }
 {
     let mut j = 0;

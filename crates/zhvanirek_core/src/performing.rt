@@ -99,8 +99,8 @@ pub fn retyping(
     message: &[u32],
     service: Row,
 ) -> Answer
-    requires fact_1 { serving.Served (lent table.old control.old) service.0 }
-    requires fact_2 { cap.is_untyped (tables.cap_of table.old service.0) ≡ true }
+    requires served { serving.Served (lent table.old control.old) service.0 }
+    requires untyped { cap.is_untyped (tables.cap_of table.old service.0) ≡ true }
     ensures { record { answer = result; tables = lent table.new control.new } ≡ spec.carried_out edition32 (lent table.old control.old) (λ f. spec.perform edition32 f caller message.now service.0 operations.Retype) }
 {
     let found = asking::row_named(table, caller, message, 4);
@@ -122,8 +122,8 @@ fn rotating_from(
     service: Row,
     pivot_root: Row,
 ) -> Answer
-    requires fact_1 { serving.Served (lent table.old control.old) service.0 }
-    requires fact_2 { pivot_root.0 * 8 + 8 ≤ length table.old }
+    requires served { serving.Served (lent table.old control.old) service.0 }
+    requires inside { pivot_root.0 * 8 + 8 ≤ length table.old }
     ensures { record { answer = result; tables = lent table.new control.new } ≡ spec.carried_out edition32 (lent table.old control.old) (λ f. serving.turned_from f caller message.now service.0 pivot_root.0) }
 {
     let found = asking::row_named(table, caller, message, 9);
@@ -166,8 +166,8 @@ pub fn perform(
     message: &[u32],
     service: Row,
 ) -> Answer
-    requires fact_1 { serving.Served (lent table.old control.old) service.0 }
-    requires fact_2 { spec.invokes (tables.cap_of table.old service.0) (spec.operation_of (slice_index message.now 0)) ≡ true }
+    requires served { serving.Served (lent table.old control.old) service.0 }
+    requires invokes { spec.invokes (tables.cap_of table.old service.0) (spec.operation_of (slice_index message.now 0)) ≡ true }
     ensures { record { answer = result; tables = lent table.new control.new } ≡ spec.carried_out edition32 (lent table.old control.old) (λ f. spec.perform edition32 f caller message.now service.0 (spec.operation_of (slice_index message.now 0))) }
 {
     let operation = operation_of(word_at(message, 0));
