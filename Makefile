@@ -3,16 +3,15 @@
 
 run:
 	scripts/set-up
-	rt check console
+	scripts/build
 	scripts/tour
 	@echo "By hand: scripts/console < FILE, or scripts/console and lines as above; a line that is refused answers 'bad', and the end of the input ends it."
 
 test: reference
-	rt fmt --check
 	cd reference && cargo test --release --offline --quiet
 	reference/target/release/reference --cases
 	scripts/differential
-	rt ci
+	scripts/gate
 
 # the independent second program
 reference:
@@ -22,5 +21,5 @@ reference:
 # what a request costs, by table size and fill (not a test)
 .PHONY: benchmark
 benchmark: reference
-	rt check console
+	scripts/build
 	reference/target/release/reference --benchmark scripts/console

@@ -13,7 +13,7 @@ ghost use Rattle.io.specs.Counts.{IsPrefixLen};
 use crate::command::{Desk, obey};
 use crate::line::Line;
 use crate::output::{Pen, flush};
-use libc::STDIN_FILENO;
+use std::io::Read;
 
 // What is kept from byte to byte: the line so far, the desk, and whether there is more to read.
 #[derive(Clone, Copy)]
@@ -71,12 +71,21 @@ struct Chunk {
     more: bool,
 }
 
+// How many bytes a read brought: none where it failed.
+fn brought<R: Read>(input: &mut R, buffer: &mut [u8]) -> usize
+    ensures { IsPrefixLen result buffer.new }
+{
+    match input.read(buffer) {
+        Ok(count) => count,
+        Err(_) => 0,
+    }
+}
+
 // Reads once. The end of the input is taken as a line feed, so that a last line needs none.
-fn receive(buffer: &mut [u8]) -> Chunk
+fn receive<R: Read>(input: &mut R, buffer: &mut [u8]) -> Chunk
     ensures { IsPrefixLen result.count buffer.new }
 {
-    let got = libc::read(STDIN_FILENO, buffer);
-    let count = io::count(got, buffer);
+    let count = brought(input, buffer);
     if count == 0 {
         if 0 < buffer.len() {
             buffer[0] = b'\n';
@@ -94,7 +103,8 @@ fn receive(buffer: &mut [u8]) -> Chunk
 }
 
 // Reads once, does what the lines ask for, and hands on what is to be written.
-fn turn(
+fn turn<R: Read>(
+    input: &mut R,
     table: &mut [u32],
     control: &mut [u32; 4],
     out: &mut [u8],
@@ -102,7 +112,7 @@ fn turn(
     s: Session,
 ) -> Session {
     let mut buffer = io::large_buffer();
-    let chunk = receive(&mut buffer);
+    let chunk = receive(input, &mut buffer);
     let count = chunk.count;
     let mut next = feed(table, control, out, numbers, s, &buffer[..count]);
     let mut desk = next.desk;
@@ -114,7 +124,8 @@ fn turn(
 }
 
 // A proved loop has to end, and nothing says that the input does: so the turns are counted down, from a number that no run uses up.
-fn main() {
+fn main(rt: HostRuntime) {
+    let mut input = rt.stdin();
     let mut table = [0u32; 32768];
     let mut control = [0u32; 4];
     let mut numbers = [0u32; 17];
@@ -129,7 +140,7 @@ fn main() {
     };
     let mut turns = u64::MAX;
     while turns > 0 && s.open {
-        s = turn(&mut table, &mut control, &mut out, &mut numbers, s);
+        s = turn(&mut input, &mut table, &mut control, &mut out, &mut numbers, s);
         turns -= 1;
     }
 }

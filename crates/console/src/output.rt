@@ -2,7 +2,8 @@
 ghost use Rattle.std.specs.Prelude.{◌≡◌, [], ◌∷◌};
 ghost use Rattle.console.specs.Writing.{HandsOn, HasRoom, Writes, decimal, spaced};
 
-use libc::STDOUT_FILENO;
+// The standard output.
+const STDOUT: i32 = 1;
 
 // How many bytes the buffer holds, and whether a write failed.
 #[derive(Clone, Copy)]
@@ -17,7 +18,7 @@ pub fn flush(out: &[u8], pen: Pen) -> Pen
 {
     let at = pen.at;
     if at <= out.len() {
-        let written = io::write_all(STDOUT_FILENO, &out[..at]);
+        let written = io::write_all(STDOUT, &out[..at]);
         return Pen {
             at: 0,
             lost: pen.lost || !written,
