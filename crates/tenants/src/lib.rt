@@ -1,3 +1,3 @@
 // What tenants are promised. There is no code here: specs/ holds the statements, over what the core promises of each request, and proofs/
-#![tactic(auto)]
 // their proofs.
+#![tactic(auto)]
