@@ -35,14 +35,14 @@ unfolding with_byte spelled counted lettered noted blanked released stepped ende
 commands = (refl, refl, refl, refl, refl)
 
 -- their numbers
-their-numbers :
+their_numbers :
     (numbers "boot 10 4" ≡ 10 ∷ 4 ∷ [])
     × (numbers "  size\t\t512  " ≡ 512 ∷ [])
     × (numbers "ask 7" ≡ 7 ∷ [])
     × (numbers "control 1 2 3 4294967295" ≡ 1 ∷ 2 ∷ 3 ∷ 4294967295 ∷ [])
     × (numbers "show\r" ≡ [])
 unfolding with_byte spelled counted lettered noted blanked released stepped ended by_key command_of
-their-numbers = (refl, refl, refl, refl, refl)
+their_numbers = (refl, refl, refl, refl, refl)
 
 -- too few numbers or too many, another word, a number that is none or too great, a carriage return inside, a comment behind a blank
 refused :

@@ -26,7 +26,7 @@ use Rattle.model.proofs.Words.WellFormed.{roomy32, write_read, good_read, good_f
 use Rattle.model.proofs.Words.Around.{At}
 use Rattle.model.proofs.Words.Edited.{listed_under}
 use Rattle.model.proofs.Words.Runs.{raised_run}
-use Rattle.model.proofs.Words.Removed.{write-removed}
+use Rattle.model.proofs.Words.Removed.{write_removed}
 use Rattle.model.proofs.Kept.Edits.{entries_without}
 use Rattle.model.proofs.Kept.Objects.{same_refl, same_parts, same_empty}
 use Rattle.model.proofs.Kept.Removal.{Swept, removed_none, removed_start}
@@ -65,7 +65,7 @@ module _ (t : Tables) (well : well_formed edition32 t ≡ true) (k : ℕ) where
         table = unlinked (raised_run t.table (listed_under p)) k (word t.table k 6) (word t.table k 5);
         control = set (set t.control 2 (cond (eqb (word t.table k 6) 4294967295) (word t.table k 5) (get_or t.control 2 0))) 3 n;
       }) (sub-one (get_or t.control 3 0))
-      ∙ sym (write-removed edition32 (read edition32 t) fits k p
+      ∙ sym (write_removed edition32 (read edition32 t) fits k p
       ∙ ap (λ (u : Tables). record {
         table = unlinked (raised_run u.table (listed_under p)) k (word u.table k 6) (word u.table k 5);
         control = set (set u.control 2 (cond (eqb (word u.table k 6) 4294967295) (word u.table k 5) (get_or u.control 2 0))) 3 (pred (get_or u.control 3 0));
@@ -118,7 +118,7 @@ module _ (t : Tables) (well : well_formed edition32 t ≡ true) (k : ℕ) where
 
     fewer : length (listing 0 (edit (without (k ∷ [])) f)) ≡ pred (length (listing 0 f))
     unfolding write
-    fewer = ap (λ (u : Tables). get_or u.control 3 0) (write-removed edition32 (read edition32 t) fits k (place t well k there))
+    fewer = ap (λ (u : Tables). get_or u.control 3 0) (write_removed edition32 (read edition32 t) fits k (place t well k there))
 
     some : 0 < length (listing 0 f)
     unfolding write listing
