@@ -4,10 +4,8 @@ use Rattle.model.specs.Edition.{edition32}
 use Rattle.rules_row.proofs.Scan.{Scanned}
 use Rattle.rules_row.proofs.rows_allowed.Given as goal
 
--- invariant-loop-k: t m rows count k₀ occupied₀ k occupied
 abbrev pub invariant-loop-k : goal.invariant-loop-k
 invariant-loop-k l = (l.k ≤ l.rows) × Scanned edition32 l.m l.t l.k l.occupied
 
--- decreases-loop-k: t m rows count k₀ occupied₀ k occupied
 abbrev pub decreases-loop-k : goal.decreases-loop-k
 decreases-loop-k l = l.rows - l.k

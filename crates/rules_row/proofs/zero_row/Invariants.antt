@@ -4,10 +4,8 @@ use mathlib.Core.Path.{◌≡◌}
 use Rattle.model.specs.Rules.{zeros}
 use Rattle.rules_row.proofs.zero_row.Given as goal
 
--- invariant-loop-i: t row i₀ i
 abbrev pub invariant-loop-i : goal.invariant-loop-i
 invariant-loop-i l = (l.i ≤ 8) × (zeros l.t (l.row.0 * 8 + l.i) (8 - l.i) ≡ zeros l.t (l.row.0 * 8) 8)
 
--- decreases-loop-i: t row i₀ i
 abbrev pub decreases-loop-i : goal.decreases-loop-i
 decreases-loop-i l = 8 - l.i
