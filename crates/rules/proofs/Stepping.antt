@@ -9,7 +9,6 @@ use lib.ListN.{get_or, set, length, replicate, length-replicate, get_or-replicat
 use lib.Pow.{pow_pos}
 use lib.Seq.{get_or-set_same, get_or-set_other, set_out}
 use borrow.Author.Tests.{ne_eqb, eqb-true, eqb-false, ltb-true, ltb-false, leb-true, not-true, eq-eqb}
-use Rattle.model.specs.Lists.{count}
 use Rattle.model.specs.Edition.{Edition, edition32, most_rows}
 use Rattle.model.specs.Cap.{is_empty}
 use Rattle.model.specs.Tables.{rows, word, cap_of, follow}
