@@ -6,7 +6,7 @@ use mathlib.Core.List.{List, [], ◌∷◌}
 use native.Mathlib.Omega.{arith}
 use lib.ListN.{get_or, length, set, replicate, length-replicate, length-map}
 use Rattle.model.specs.Edition.{edition32, most_rows}
-use Rattle.model.specs.Lists.{member, count}
+use Rattle.model.specs.Lists.{member}
 use Rattle.model.specs.Cap.{is_empty}
 use Rattle.model.specs.Tree.{Forest, entries, edit, without}
 use Rattle.model.specs.Tables.{Tables, Listed, rows, cap_of, read, write, listing, rows_from, first_of}

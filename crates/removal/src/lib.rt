@@ -1,5 +1,6 @@
 // Delete and Revoke on tables that are well-formed.
 #![tactic(auto)]
+
 pub mod following; // following.rt: which rows go
 pub mod single; // single.rt: a row that goes by itself
 pub mod survivors; // survivors.rt: the rows that stay
@@ -19,8 +20,8 @@ use table::word;
 
 // A row goes, with all that follows; how many went.
 pub fn delete(t: &mut [u32], control: &mut [u32; 4], row: Row) -> u32
-    requires control_value { well_formed edition32 (lent t.old control.old) ≡ true }
-    requires row_in_bounds { row.0 * 8 + 8 ≤ length t.old }
+    requires formed { well_formed edition32 (lent t.old control.old) ≡ true }
+    requires inside { row.0 * 8 + 8 ≤ length t.old }
     ensures { removing.Removes (lent t.old control.old) (lent t.new control.new) (removing.target (lent t.old control.old) row.0) result }
 {
     if word(t, row, 0) == EMPTY {
@@ -41,8 +42,8 @@ pub fn delete(t: &mut [u32], control: &mut [u32; 4], row: Row) -> u32
 
 // All descendants of a row go, with all that follows; how many went.
 pub fn revoke(t: &mut [u32], control: &mut [u32; 4], row: Row) -> u32
-    requires control_value { well_formed edition32 (lent t.old control.old) ≡ true }
-    requires row_in_bounds { row.0 * 8 + 8 ≤ length t.old }
+    requires formed { well_formed edition32 (lent t.old control.old) ≡ true }
+    requires inside { row.0 * 8 + 8 ≤ length t.old }
     ensures { removing.Removes (lent t.old control.old) (lent t.new control.new) (removing.offspring (lent t.old control.old) row.0) result }
 {
     let mut mark = [0u32; MOST_ROWS];

@@ -13,8 +13,8 @@ use table::{cap_at, word};
 
 // A row of the table, another than the given one, names what that one names.
 fn also_names(t: &[u32], row: u32, other: u32) -> bool
-    requires row_bound { row < marking.row_count t.now }
-    requires t_bound { marking.row_count t.now ≤ most_rows }
+    requires inside { row < marking.row_count t.now }
+    requires few { marking.row_count t.now ≤ most_rows }
     ensures { result ≡ removing.also_names (cap_of t.now) (marking.row_count t.now) row other }
 {
     let rows = (t.len() / 8) as u32;
@@ -29,8 +29,8 @@ fn also_names(t: &[u32], row: u32, other: u32) -> bool
 
 // Another row names the object that a row names. A copy stands beside its source in the list, so the rows beside are asked first.
 fn named_elsewhere(t: &[u32], row: u32) -> bool
-    requires row_bound { row < marking.row_count t.now }
-    requires t_bound { marking.row_count t.now ≤ most_rows }
+    requires inside { row < marking.row_count t.now }
+    requires few { marking.row_count t.now ≤ most_rows }
     ensures { result ≡ removing.named_elsewhere (cap_of t.now) (marking.row_count t.now) row }
 {
     if also_names(t, row, word(t, Row(row), 6)) {
@@ -52,8 +52,8 @@ fn named_elsewhere(t: &[u32], row: u32) -> bool
 
 // Nothing follows a row that names no CNode, or a CNode that another row names too.
 pub fn goes_alone(t: &[u32], row: u32) -> bool
-    requires row_bound { row < marking.row_count t.now }
-    requires t_bound { marking.row_count t.now ≤ most_rows }
+    requires inside { row < marking.row_count t.now }
+    requires few { marking.row_count t.now ≤ most_rows }
     ensures { result ≡ removing.goes_alone (cap_of t.now) (marking.row_count t.now) row }
 {
     word(t, Row(row), 0) != CNODE || named_elsewhere(t, row)
@@ -61,8 +61,8 @@ pub fn goes_alone(t: &[u32], row: u32) -> bool
 
 // What is below a row goes one up: the rows after it that are deeper.
 fn raise_descendants(t: &mut [u32], control: &[u32; 4], row: u32)
-    requires control_value { well_formed edition32 (lent t.old control.now) ≡ true }
-    requires row_value { removing.occupied (lent t.old control.now) row ≡ true }
+    requires formed { well_formed edition32 (lent t.old control.now) ≡ true }
+    requires occupied { removing.occupied (lent t.old control.now) row ≡ true }
     ensures { removing.Raises (lent t.old control.now) row t.new }
 {
     let depth = word(t, Row(row), 7);
@@ -95,8 +95,8 @@ fn head_without(last: u32, next: u32, head: u32) -> u32
 
 // One row goes, and what was below it hangs from its nearest ancestor.
 pub fn cut(t: &mut [u32], control: &mut [u32; 4], row: u32)
-    requires control_value { well_formed edition32 (lent t.old control.old) ≡ true }
-    requires row_value { removing.occupied (lent t.old control.old) row ≡ true }
+    requires formed { well_formed edition32 (lent t.old control.old) ≡ true }
+    requires occupied { removing.occupied (lent t.old control.old) row ≡ true }
     ensures { lent t.new control.new ≡ removing.without_row (lent t.old control.old) row }
 {
     let last = word(t, Row(row), 6);
