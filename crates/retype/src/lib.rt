@@ -1,5 +1,6 @@
 // Retype on checked tables.
 #![tactic(auto)]
+
 pub mod object; // object.rt: sizes and capabilities of new objects
 pub mod place; // place.rt: the node and the window of its slots
 pub mod memory; // memory.rt: the memory of an Untyped

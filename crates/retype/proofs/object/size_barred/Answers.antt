@@ -4,11 +4,11 @@ use Prim.Native.Nat.{ℕ}
 use mathlib.Core.Path.{◌≡◌}
 use mathlib.Core.Bool.{Bool, true, false}
 use lib.Dec.{eqb, ltb}
+use native.Mathlib.Omega.{arith}
 use borrow.Author.Tests.{eq-eqb, ne_eqb, lt-ltb, le-ltb}
 use Rattle.model.specs.Edition.{edition32}
 use Rattle.model.specs.Operations.{size_barred}
-use Rattle.retype.proofs.object.size_barred.Statement.{statement}
-use Rattle.retype.proofs.object.size_barred.Tie as tie
+use Rattle.retype.proofs.object.size_barred.Goals as goal
 
 untyped : (object size : ℕ) (b : Bool) → object ≡ 0 → ltb size 4 ≡ b → b ≡ size_barred edition32 object size
 unfolding size_barred
@@ -23,20 +23,17 @@ other : (object size : ℕ) → (object ≡ 0 → ⊥) → (object ≡ 4 → ⊥
 unfolding size_barred
 other object size h k = rw (ne_eqb object 0 h, ne_eqb object 4 k)
 
-returns : tie.Need-returns
-returns c = untyped _ _ true c.before.match.keys1 (lt-ltb _ _ c.if1.true)
+pub returns-in-0-to-3 : goal.returns-in-0-to-3
+returns-in-0-to-3 c = untyped _ _ true c.in-0.is (lt-ltb _ _ (omega arith))
 
-returns-2 : tie.Need-returns-2
-returns-2 c = untyped _ _ false c.before.match.keys1 (le-ltb _ _ c.if1.false)
+pub returns-in_default-size : goal.returns-in_default-size
+returns-in_default-size c = untyped _ _ false c.in-0.is (le-ltb _ _ (omega arith))
 
-returns-3 : tie.Need-returns-3
-returns-3 c = cnode _ _ true c.before.match.keys2 (eq-eqb _ _ c.match2.keys1)
+pub returns-in-0-size : goal.returns-in-0-size
+returns-in-0-size c = cnode _ _ true c.in-4.is (eq-eqb _ _ c.in-0-size.is)
 
-returns-4 : tie.Need-returns-4
-returns-4 c = cnode _ _ false c.before.match.keys2 (ne_eqb _ _ c.match2.rest.1)
+pub returns-in_default-size-2 : goal.returns-in_default-size-2
+returns-in_default-size-2 c = cnode _ _ false c.in-4.is (ne_eqb _ _ (omega arith))
 
-returns-5 : tie.Need-returns-5
-returns-5 c = other _ _ c.match.rest.0.1 c.match.rest.1
-
-pub size-barred-spec : {M : Type 1} → statement M
-size-barred-spec = tie.close (tie.spec returns returns-2 returns-3 returns-4 returns-5)
+pub returns-in_default : goal.returns-in_default
+returns-in_default c = other _ _ (omega arith) (omega arith)

@@ -2,11 +2,9 @@
 -- Assumes nothing.
 use Prim.Native.Nat.{ℕ, ◌+◌}
 use mathlib.Core.Path.{◌≡◌}
-use mathlib.Core.Logic.{⊎_elim}
 use mathlib.Core.Bool.{cond}
 use native.Mathlib.Omega.{arith}
 use lib.Dec.{eqb}
-use borrow.Author.Rules.{rules}
 use borrow.Author.Tests.{ne_eqb}
 use Rattle.model.specs.Edition.{edition32}
 use Rattle.model.specs.declared.Cap.{Cap}
@@ -14,8 +12,8 @@ use Rattle.model.specs.declared.Address.{Address}
 use Rattle.model.specs.Cap.{exponent, rights_of}
 use Rattle.model.specs.Operations.{new_cap}
 use Rattle.retype.proofs.Sizes.{exponent_small}
-use Rattle.retype.proofs.object.new_cap.Statement.{statement}
-use Rattle.retype.proofs.object.new_cap.Tie as tie
+use Rattle.retype.proofs.object.new_cap.Goals as goal
+use Rattle.retype.proofs.object.new_cap.Goals.{else-object-ne4, then-object-ne4}
 
 -- a CNode's radix, else the power of two of the object's bytes
 abbrev shownSize : (object size : ℕ) → ℕ
@@ -32,24 +30,14 @@ fields : (object size s rights : ℕ) (a : Address) → s ≡ shownSize object s
 unfolding new_cap
 fields object size s rights a p q = rw (p, q)
 
-exponent-requires : tie.Need-exponent-requires
-exponent-requires c κs = search rules
+pub overflow_cast-shown : goal.overflow_cast-shown
+overflow_cast-shown c = omega (arith, c.exponent-shown.ensures, exponent_small _ _ c.requires)
 
-cast-shown : tie.Need-overflow-cast-shown
-cast-shown c = omega (arith, c.exponent.ensures, exponent_small _ _ c.before.before.requires)
-
-add-kind : tie.Need-overflow-add-kind
-add-kind c = search rules
-
-rights-of-requires : tie.Need-rights-of-requires
-rights-of-requires c κs = search rules
-
-returns : tie.Need-returns
+pub returns : goal.returns
 returns c =
     fields _ _ _ _ _
-    (⊎_elim (λ w. shown _ _ _ _ w.2 w.1.ensures w.0.taken) (λ w. plain _ _ _ w.1 w.0.left) c.before.if1.branch)
-    c.rights-of.ensures
-
-pub new-cap-spec : {M : Type 1} → statement M
-new-cap-spec =
-    tie.close (tie.spec exponent-requires cast-shown add-kind rights-of-requires returns)
+    (elim c.if-object-ne4.branch [
+      | then-object-ne4 w ↦ shown _ _ _ _ w.shown-is w.exponent-shown.ensures w.if-object-ne4.true
+      | else-object-ne4 w ↦ plain _ _ _ w.shown-is w.if-object-ne4.false
+    ])
+    c.rights_of.ensures
