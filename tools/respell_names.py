@@ -93,7 +93,7 @@ def main():
             module = m.group(1).split(".")
             if module[0] != "Rattle" or not os.path.isdir("crates/" + module[1]) or module[1:3] == ["core", "std"]:
                 imported.update(w.strip().split(" as ")[0] for w in m.group(2).split(","))
-        if os.path.basename(path) not in ("Proof.antt", "Answers.antt", "Invariants.antt"):
+        if "/specs/" in path or os.path.basename(path) not in ("Proof.antt", "Answers.antt", "Invariants.antt"):
             own.update(defined(text))
     names = sorted(n for n in own if wanted(n) and n not in imported)
     turned, taken = {}, imported | {n for n in own if n not in names}
