@@ -118,6 +118,10 @@ module _ (t : Tables) (formed : well_formed edition32 t ≡ true) (caller : ℕ)
 
 -- ---- the operation by its number
 
+-- the operation o that the code made of the message's first word w is the one that the message asks for
+pub asks_for : (message : List ℕ) (w : ℕ) (o : Operation) → w ≡ get_or message 0 0 → o ≡ operation_of w → operation_of (get_or message 0 0) ≡ o
+asks_for message w o read e = sym (e ∙ ap operation_of read)
+
 module _ (t : Tables) (caller : ℕ) (message : List ℕ) (k : ℕ) where
   -- what is performed of the operation o, where the message asks for it
   pub chosen_is : (o : Operation) (g : Forest → Check Done) → operation_of (get_or message 0 0) ≡ o → g (read edition32 t).forest ≡ perform edition32 (read edition32 t).forest caller message k o

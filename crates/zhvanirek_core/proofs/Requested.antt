@@ -8,7 +8,7 @@ use Rattle.model.specs.declared.Answer.TheVariants.{BadTables}
 use Rattle.model.specs.declared.Cap.{Cap}
 use Rattle.model.specs.Edition.{edition32}
 use Rattle.model.specs.Tree.{Forest, cap_at}
-use Rattle.model.specs.Check.{Check, passed, refused, ◌>>=◌, ◌>>◌}
+use Rattle.model.specs.Check.{Check, passed, refused, ◌>>=◌}
 use Rattle.model.specs.Tables.{Tables, cap_of, read}
 use Rattle.model.specs.Rules.{well_formed}
 use Rattle.model.specs.Request.{operation_of, invokes, row_named, perform, served, carried_out, request}
