@@ -1,5 +1,5 @@
 -- What a line does to the tables and the control words, how many words are lent after it, and what it writes.
-use Rattle.std.specs.Prelude.{◌≡◌, ℕ, ◌+◌, ◌-◌, ◌*◌, Bool, true, false, cond, ◌&&◌, List, [], ◌∷◌, ◌++◌, length, take, drop, replicate, nat_le, slice_index, slice_range}
+use Rattle.std.specs.Prelude.{◌≡◌, ℕ, ◌+◌, ◌*◌, Bool, true, false, cond, ◌&&◌, List, [], ◌∷◌, ◌++◌, length, take, drop, replicate, nat_le, slice_index, slice_range}
 use Rattle.model.specs.Edition.{edition32}
 use Rattle.model.specs.Rules.{m_in_range, well_formed}
 use Rattle.model.specs.Tables.{Tables, lent, rows}

@@ -1,5 +1,6 @@
 // The console: tables and requests as lines of text, from standard input to standard output.
 #![tactic(auto)]
+
 mod asking; // asking.rt: what a line asks for
 mod command; // command.rt: that it is done
 mod line; // line.rt: a line, read byte by byte
@@ -140,7 +141,14 @@ fn main(rt: HostRuntime) {
     };
     let mut turns = u64::MAX;
     while turns > 0 && s.open {
-        s = turn(&mut input, &mut table, &mut control, &mut out, &mut numbers, s);
+        s = turn(
+            &mut input,
+            &mut table,
+            &mut control,
+            &mut out,
+            &mut numbers,
+            s,
+        );
         turns -= 1;
     }
 }
