@@ -1,5 +1,6 @@
 // The check on the tables of document 01's cases, on each rule broken alone, and on sound tables that no request makes.
 #![tactic(auto)]
+
 ghost use Rattle.std.specs.Prelude.{◌<◌};
 
 const NONE: u32 = 4294967295;

@@ -1,5 +1,6 @@
 // The core's face: boot, a request, and the six words of an answer.
 #![tactic(auto)]
+
 mod asking;
 mod booting;
 mod message;
