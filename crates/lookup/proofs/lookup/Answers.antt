@@ -4,7 +4,7 @@ use Prim.Native.Nat.{ℕ, ◌+◌, ◌*◌, ◌≤◌, ◌<◌}
 use mathlib.Core.Path.{◌≡◌, sym, ap₂, ◌∙◌}
 use mathlib.Core.Bool.{false}
 use native.Mathlib.Omega.{arith}
-use borrow.Author.Tests.{le-leb, lt-leb, eq-eqb, ne_eqb, ltb-false}
+use borrow.Author.Tests.{le-leb, lt-leb, eq-eqb, ne_eqb}
 use lib.ListN.{length}
 use Rattle.model.specs.Edition.{edition32}
 use Rattle.model.specs.Lists.{within}
@@ -26,14 +26,14 @@ pub returns-then-depth-lt1 : goal.returns-then-depth-lt1
 unfolding is_cnode lookup within
 returns-then-depth-lt1 c =
     rw (lookup, eq-eqb _ 5 c.if-root-ne-CNODE.false)
-    ((elim c.then-depth-lt1.branch [ then-depth-lt1-via-then-depth-lt1 w ↦ rw (lt-leb 1 _ w.if-depth-lt1.true) | then-depth-lt1-via-else-depth-lt1+then-depth-gt32 w ↦ rw (le-leb 1 _ w.if-depth-lt1.false) (rw (lt-leb _ 32 w.if-depth-gt32.true)) ]))
+    ((elim c.then-depth-lt1.branch [ then-depth-lt1-via-then-depth-lt1 w ↦ rw (lt-leb 1 _ w.if-depth-lt1.true) | then-depth-lt1-via-else-depth-lt1+then-depth-gt32 w ↦ rw (le-leb 1 _ w.if-depth-lt1.false) (rw (lt-leb c.args.depth 32 (omega (arith, w.if-depth-gt32.true)))) ]))
 
 pub loop-node-init : goal.loop-node-init
 unfolding is_cnode lookup
 loop-node-init c =
     let is = c.if-root-ne-CNODE.false in
     let least = c.if-depth-lt1.false in
-    let most = ltb-false _ _ c.if-depth-gt32.false-raw in
+    let most = c.if-depth-gt32.false in
     record {
       usable = c.requires.usable (eq-eqb _ 5 is);
       some = least;

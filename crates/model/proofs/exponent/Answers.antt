@@ -1,6 +1,5 @@
 -- An Untyped and a CNode add their size to the table's entry, the other types do not.
-use Rattle.std.proofs.Common.{◌≡◌, ℕ, ◌+◌, ◌||◌, true, false, get_or, rules, eqb, eq-eqb, ne_eqb, add-zero}
-use mathlib.Core.Logic.{⊎_elim}
+use Rattle.std.proofs.Common.{◌≡◌, ℕ, ◌+◌, ◌||◌, true, false, get_or, eqb, eq-eqb, ne_eqb, add-zero}
 use Rattle.model.specs.Edition.{edition32}
 use Rattle.model.specs.Cap.{exponent}
 use Rattle.model.proofs.exponent.Goals as goal

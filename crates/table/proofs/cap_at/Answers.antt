@@ -1,6 +1,5 @@
 -- `table::cap_at` meets its contract: its fields are the words that `word` gives.
 -- Assumes nothing.
-use borrow.Author.Rules.{rules}
 use Rattle.model.specs.Tables.{cap_of}
 use Rattle.table.proofs.cap_at.Goals as goal
 

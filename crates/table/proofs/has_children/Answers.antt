@@ -2,7 +2,6 @@
 -- Assumes nothing.
 use mathlib.Core.Path.{sym, ap₂, ◌∙◌}
 use lib.Dec.{ltb}
-use borrow.Author.Rules.{rules}
 use Rattle.table.proofs.Children.{next_inside, next_outside}
 use Rattle.table.proofs.has_children.Goals as goal
 

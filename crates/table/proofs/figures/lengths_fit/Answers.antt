@@ -2,7 +2,6 @@
 use mathlib.Core.Path.{◌∙◌}
 use borrow.Author.Tests.{eq-eqb, ne_eqb}
 use Rattle.model.specs.Rules.{lengths_fit}
-use borrow.Author.Rules.{rules}
 use Rattle.table.proofs.figures.lengths_fit.Goals as goal
 
 pub returns-then-table-table_words : goal.returns-then-table-table_words

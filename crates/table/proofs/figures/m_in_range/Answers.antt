@@ -1,5 +1,4 @@
 -- The range is the edition's.
-use borrow.Author.Rules.{rules}
 use Rattle.model.specs.Rules.{m_in_range}
 use Rattle.table.proofs.figures.m_in_range.Goals as goal
 

@@ -1,5 +1,4 @@
 -- The range goes up to the greatest radix.
-use borrow.Author.Rules.{rules}
 use Rattle.model.specs.Rules.{r_in_range}
 use Rattle.table.proofs.figures.r_in_range.Goals as goal
 

@@ -1,10 +1,7 @@
 -- `size::bytes_of` meets its contract: an exponent below 64 is kept by the cast.
 -- Assumes nothing.
-use Prim.Native.Nat.{◌-◌, ◌<◌}
+use Prim.Native.Nat.{◌-◌}
 use mathlib.Core.Path.{◌≡◌}
-use native.Mathlib.Nat.{lt_trans}
-use borrow.Author.Rules.{rules}
-use lib.Dec.{lit<}
 use Rattle.model.specs.Edition.{edition32}
 use Rattle.model.specs.Cap.{bytes, exponent}
 use Rattle.table.proofs.size.bytes_of.Goals as goal

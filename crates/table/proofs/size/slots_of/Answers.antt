@@ -1,7 +1,6 @@
 -- `size::slots_of` meets its contract.
 -- Assumes nothing.
 use Rattle.model.specs.Cap.{slots}
-use borrow.Author.Rules.{rules}
 use Rattle.table.proofs.size.slots_of.Goals as goal
 
 pub returns : goal.returns
