@@ -6,10 +6,8 @@ use Rattle.model.specs.Lookup.{lookup}
 use Rattle.lookup.proofs.Levels.{Going}
 use Rattle.lookup.proofs.lookup.Given as goal
 
--- invariant-loop-node: t address depth node₀ left₀ node left
 abbrev pub invariant-loop-node : goal.invariant-loop-node
 invariant-loop-node l = Going l.t l.address (lookup edition32 (cap_of l.t) l.initial.node l.address l.initial.left) l.node l.left
 
--- decreases-loop-node: t address depth node₀ left₀ node left
 abbrev pub decreases-loop-node : goal.decreases-loop-node
 decreases-loop-node l = l.left

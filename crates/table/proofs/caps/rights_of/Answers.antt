@@ -1,5 +1,6 @@
 -- Each arm is the definition at its kinds.
-use mathlib.Core.Logic.{inl, inr, ⊎_elim}
+use mathlib.Core.Logic.{⊎_elim}
+use native.Mathlib.Omega.{arith}
 use borrow.Author.Tests.{ne_eqb}
 use Rattle.model.specs.Cap.{rights_of}
 use Rattle.table.proofs.caps.rights_of.Goals as goal
@@ -14,4 +15,4 @@ returns-in-4 c = ⊎_elim (λ e. rw e) (λ e. rw e) c.in-4.is
 
 pub returns-in_default : goal.returns-in_default
 unfolding rights_of
-returns-in_default c = let r = c.in_default.in_default-own.rest in rw (ne_eqb _ 3 r.0.1, ne_eqb _ 4 (λ e. r.1 (inl e)), ne_eqb _ 6 (λ e. r.1 (inr e)))
+returns-in_default c = rw (ne_eqb c.args.kind 3 (λ e. omega arith), ne_eqb c.args.kind 4 (λ e. grind arith), ne_eqb c.args.kind 6 (λ e. grind arith))
