@@ -54,6 +54,11 @@ module _ (m : ℕ) (t : List ℕ) (k : ℕ) (at : Occupied edition32 m t k) wher
         (let p : Celled edition32 (cap_of t k) = celled_of sane32 m (cap_of t k) allowed at.filled in
         omega (arith, limited, p.starts, p.wide))
 
+    -- n / 16 cells from the one at its address on
+    pub fits : (first n : ℕ) → first ≡ c.address.0 / 16 → n ≡ bytes edition32 c → first + n / 16 ≤ most_rows
+    unfolding first_cell
+    fits first n f e = omega (arith, in_array, f, as_cells n e)
+
     pub first_in_array : first_cell c < most_rows
     first_in_array =
         rw isK

@@ -1,5 +1,5 @@
 -- The walk of the list, one entry after the other as the code takes it.
-use Prim.Native.Nat.{ℕ, zero, suc, ◌+◌, ◌-◌, ◌^◌, ◌≤◌, ◌<◌}
+use Prim.Native.Nat.{ℕ, zero, suc, ◌+◌, ◌-◌, ◌*◌, ◌^◌, ◌≤◌, ◌<◌}
 use mathlib.Core.Path.{◌≡◌, refl, sym, ap, ◌∙◌}
 use mathlib.Core.Bool.{Bool, true, false, not, ◌&&◌}
 use mathlib.Core.List.{List, ◌∷◌}
@@ -12,7 +12,7 @@ use borrow.Author.Tests.{ne_eqb, eqb-true, eqb-false, ltb-true, ltb-false, leb-t
 use Rattle.model.specs.Edition.{Edition, edition32, most_rows}
 use Rattle.model.specs.Cap.{is_empty}
 use Rattle.model.specs.Tables.{rows, word, cap_of, follow}
-use Rattle.model.specs.Rules.{link_allowed, listed, occupied}
+use Rattle.model.specs.Rules.{m_in_range, link_allowed, listed, occupied}
 use Rattle.model.proofs.Booleans.{either, and_left, and_right, part}
 use Rattle.model.proofs.Words.Bounds.{rows_most}
 use Rattle.rules.specs.Owners.{Owners, broken, owners, kept, go_on, enter, row_above, walk, homes, judged}
@@ -80,6 +80,12 @@ module _ {m count : ℕ} {t : List ℕ} {whole : Owners} {above o : List ℕ} {k
   pub row_below : k < rows edition32 m
   unfolding link_allowed
   row_below = ltb-true k (rows edition32 m) (part _ 0 link)
+
+  pub row_inside : length t ≡ 8 * rows edition32 m → k * 8 + 8 ≤ length t
+  row_inside long = omega (arith, row_below, long)
+
+  pub row_small : m_in_range edition32 m ≡ true → k < 4294967295
+  row_small h = omega (arith, row_below, rows_most m h)
 
   pub row_filled : is_empty (cap_of t k) ≡ false
   unfolding link_allowed

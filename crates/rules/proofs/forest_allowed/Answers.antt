@@ -1,27 +1,22 @@
 -- The loop keeps `Underway`: the walk of the entries left is the walk of all, which is judged as the rule. The measure is the entries left.
-use Prim.Native.Nat.{ℕ, ◌+◌, ◌*◌, ◌≤◌, ◌<◌}
+use Prim.Native.Nat.{ℕ, ◌≤◌}
 use mathlib.Core.Path.{◌∙◌}
 use native.Mathlib.Omega.{arith}
 use lib.ListN.{length, replicate, length-replicate}
-use Rattle.model.specs.Edition.{edition32, most_rows}
-use Rattle.model.specs.Tables.{rows}
-use Rattle.model.proofs.Words.Bounds.{rows_most}
+use Rattle.model.specs.Edition.{most_rows}
 use Rattle.rules.proofs.Law.{forest_judged}
-use Rattle.rules.proofs.Stepping.{few, row_below, row_filled, row_shallow, goes_on, stops, begins, row_up, let_in, kept_out, fails, ends}
+use Rattle.rules.proofs.Stepping.{few, row_below, row_inside, row_small, row_filled, row_shallow, goes_on, stops, begins, row_up, let_in, kept_out, fails, ends}
 use Rattle.rules.proofs.forest_allowed.Goals as goal
+
+-- a depth for each row
+above_long : most_rows ≤ length (replicate {A = ℕ} most_rows 0)
+above_long = omega (arith, length-replicate {A = ℕ} most_rows 0)
 
 pub loop-left-init : goal.loop-left-init
 loop-left-init c = begins _ _ _ _ _ c.requires
 
--- ---- an entry
-
 pub word-depth-requires : goal.word-depth-requires
-word-depth-requires c =
-    let below : c.loop-left.k < rows edition32 c.args.m = row_below c.loop-left.invariant c.loop-left-test.true in
-    let inside : c.loop-left.k * 8 + 8 ≤ length c.args.t.now = omega (arith, below, c.requires.counts.scanned.long) in
-    (omega arith, inside)
-
--- ---- its depth is known
+word-depth-requires c = (omega arith, row_inside c.loop-left.invariant c.loop-left-test.true c.requires.counts.scanned.long)
 
 pub row_above-up-requires : goal.row_above-up-requires
 row_above-up-requires c =
@@ -29,35 +24,28 @@ row_above-up-requires c =
 
 pub returns-then-not-enter : goal.returns-then-not-enter
 returns-then-not-enter c =
-    let below : c.loop-left.k < rows edition32 c.args.m = row_below c.loop-left.invariant c.loop-left-test.true in
-    let small : c.loop-left.k < 4294967295 = omega (arith, below, rows_most _ c.requires.counts.scanned.m_range) in
     fails _ _ _ _
-    (stops c.loop-left.invariant c.loop-left-test.true small
-    (kept_out _ _ _ _ _ _ _ c.row_above-up.ensures c.word-depth.ensures _ _ c.enter.ensures (c.if-not-enter.true)))
-    (forest_judged _ _ _ _ (replicate most_rows 0) c.requires (omega (arith, length-replicate {A = ℕ} most_rows 0)))
+    (stops c.loop-left.invariant c.loop-left-test.true (row_small c.loop-left.invariant c.loop-left-test.true c.requires.counts.scanned.m_range)
+    (kept_out _ _ _ _ _ _ _ c.row_above-up.ensures c.word-depth.ensures _ _ c.enter.ensures c.if-not-enter.true))
+    (forest_judged _ _ _ _ _ c.requires above_long)
 
 pub bounds-above-depth : goal.bounds-above-depth
 bounds-above-depth c =
     omega (arith, c.word-depth.ensures, row_shallow c.loop-left.invariant c.loop-left-test.true, few _ _ _ _ c.requires)
 
 pub word-k-requires : goal.word-k-requires
-word-k-requires c =
-    let below : c.loop-left.k < rows edition32 c.args.m = row_below c.loop-left.invariant c.loop-left-test.true in
-    let inside : c.loop-left.k * 8 + 8 ≤ length c.args.t.now = omega (arith, below, c.requires.counts.scanned.long) in
-    (omega arith, inside)
+word-k-requires c = (omega arith, row_inside c.loop-left.invariant c.loop-left-test.true c.requires.counts.scanned.long)
 
 pub loop-left-preserved : goal.loop-left-preserved
 loop-left-preserved c =
-    let below : c.loop-left.k < rows edition32 c.args.m = row_below c.loop-left.invariant c.loop-left-test.true in
-    let small : c.loop-left.k < 4294967295 = omega (arith, below, rows_most _ c.requires.counts.scanned.m_range) in
     rw (c.word-k.ensures, c.word-depth.ensures)
-    (goes_on c.loop-left.invariant c.loop-left-test.true _ small
-    (let_in _ _ _ _ _ _ _ c.row_above-up.ensures c.word-depth.ensures _ _ c.enter.ensures (c.if-not-enter.false)))
+    (goes_on c.loop-left.invariant c.loop-left-test.true _ (row_small c.loop-left.invariant c.loop-left-test.true c.requires.counts.scanned.m_range)
+    (let_in _ _ _ _ _ _ _ c.row_above-up.ensures c.word-depth.ensures _ _ c.enter.ensures c.if-not-enter.false))
 
 pub returns : goal.returns
 returns c =
     c.housed.ensures
-    ∙ ends c.loop-left.invariant c.loop-left-test.false _ (forest_judged _ _ _ _ (replicate most_rows 0) c.requires (omega (arith, length-replicate {A = ℕ} most_rows 0)))
+    ∙ ends c.loop-left.invariant c.loop-left-test.false _ (forest_judged _ _ _ _ _ c.requires above_long)
 
 pub enter-requires-clause-occupied : goal.enter-requires-clause-occupied
 enter-requires-clause-occupied c =

@@ -1,9 +1,6 @@
 -- The rows so far lie in cells that CNodes own. The measure is the rows left.
-use Prim.Native.Nat.{◌<◌}
 use mathlib.Core.Path.{sym, ◌∙◌}
 use native.Mathlib.Omega.{arith}
-use Rattle.model.specs.Edition.{edition32}
-use Rattle.model.specs.Tables.{rows}
 use Rattle.model.proofs.Words.Bounds.{rows_most}
 use Rattle.rules.proofs.Housing.{none_homes, empty_home, node_home, no_home, other_home}
 use Rattle.rules.proofs.housed.Goals as goal
@@ -12,24 +9,18 @@ use Rattle.rules.proofs.housed.Goals.{then-word-ne-EMPTY+else-rows-by+else-word-
 pub loop-k-init : goal.loop-k-init
 loop-k-init c = (omega arith, none_homes _ _ _ _)
 
--- ---- a row
-
 pub bounds-owner-k : goal.bounds-owner-k
-bounds-owner-k c =
-    let below : c.loop-k.k < rows edition32 c.args.m = omega (arith, c.loop-k-test.true, c.rows_of-rows.ensures) in
-    omega (arith, below, rows_most _ c.requires.m_range)
+bounds-owner-k c = omega (arith, c.loop-k-test.true, c.rows_of-rows.ensures, rows_most _ c.requires.m_range)
 
 pub returns-then-rows-by : goal.returns-then-rows-by
 returns-then-rows-by c =
-    let below : c.loop-k.k < rows edition32 c.args.m = omega (arith, c.loop-k-test.true, c.rows_of-rows.ensures) in
     sym
-    (no_home _ _ _ _ _ (λ e. c.if-word-ne-EMPTY.true (c.word.ensures ∙ e)) _ below (omega (arith, c.if-rows-by.true, c.rows_of-rows.ensures)))
+    (no_home _ _ _ _ _ (λ e. c.if-word-ne-EMPTY.true (c.word.ensures ∙ e)) _ (omega (arith, c.loop-k-test.true, c.rows_of-rows.ensures)) (omega (arith, c.if-rows-by.true, c.rows_of-rows.ensures)))
 
 pub returns-then-word-ne-CNODE : goal.returns-then-word-ne-CNODE
 returns-then-word-ne-CNODE c =
-    let below : c.loop-k.k < rows edition32 c.args.m = omega (arith, c.loop-k-test.true, c.rows_of-rows.ensures) in
     sym
-    (other_home _ _ _ _ _ (λ e. c.if-word-ne-EMPTY.true (c.word.ensures ∙ e)) _ below (omega (arith, c.if-rows-by.false, c.rows_of-rows.ensures))
+    (other_home _ _ _ _ _ (λ e. c.if-word-ne-EMPTY.true (c.word.ensures ∙ e)) _ (omega (arith, c.loop-k-test.true, c.rows_of-rows.ensures)) (omega (arith, c.if-rows-by.false, c.rows_of-rows.ensures))
     (λ e. c.if-word-ne-CNODE.true (c.word-then-word-ne-EMPTY.ensures ∙ e)))
 
 pub loop-k-preserved : goal.loop-k-preserved
