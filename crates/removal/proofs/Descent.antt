@@ -30,11 +30,12 @@ use Rattle.model.proofs.Words.Edited.{listed_of, listed_before, listing_at, list
 use Rattle.model.proofs.Words.Descendants.{under_deep, past_low, holds_after, all_after, descendants_are}
 use Rattle.model.proofs.Words.Bounds.{rows_small}
 use Rattle.removal.specs.Marking.{only, row_count}
+use Rattle.removal.specs.Removing.{occupied}
 use Rattle.removal.proofs.Marks.{or_false}
 use Rattle.removal.proofs.Slots.{or_or}
 use Rattle.removal.proofs.Tables.{rows_of_tables, list_read}
 use Rattle.removal.proofs.Nodes.{sound, row_count_lem}
-use Rattle.removal.proofs.Raising.{Raised}
+use Rattle.removal.proofs.Raising.{there_of, Raised}
 
 -- us is to come, ps comes after the rows below; S are the rows that are passed, and `all` the rows below
 pub record Descent (n : ℕ) (t : List ℕ) (d : ℕ) (all : List ℕ) (next left : ℕ) (S : ℕ → Bool) (us ps : List Listed) : Type 0 where
@@ -225,3 +226,11 @@ module _ (t : Tables) (well : well_formed edition32 t ≡ true) (k : ℕ) where
 
     pub row_below_n : k < row_count t.table
     row_below_n = rw (row_count_lem t well) (subst (λ j. j < rows_of_tables t) at.row (middle_below (rows_of_tables t) pre (listed_of at) (us ++ ps) below_all))
+
+-- where an occupied row stands, and that it is in the table
+module _ (t : Tables) (well : well_formed edition32 t ≡ true) (row : ℕ) (there : occupied t row ≡ true) where
+  pub stands : At row (read edition32 t).forest
+  stands = place t well row (there_of t row there)
+
+  pub row_in : row < row_count t.table
+  row_in = row_below_n t well row stands

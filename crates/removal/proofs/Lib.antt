@@ -5,6 +5,7 @@ pub mod Marking
 pub mod Marks
 pub mod Slots
 pub mod Spreading
+pub mod AtHand
 pub mod Tallying
 pub mod Nodes
 pub mod Start

@@ -1,7 +1,7 @@
 -- `removal::mark_slots` meets its contract. The loop's invariant: the occupied rows from the first slot up to `row` are marked besides.
 -- The measure is how many slots are left. Assumes nothing.
 use Prim.Native.Nat.{ℕ, ◌/◌, ◌+◌, ◌*◌, ◌%◌, ◌^◌, ◌≤◌, ◌<◌}
-use mathlib.Core.Path.{◌≡◌, sym, ap, ◌∙◌}
+use mathlib.Core.Path.{◌≡◌, ap}
 use mathlib.Core.Bool.{true}
 use mathlib.Core.List.{List}
 use native.Mathlib.Omega.{arith}
@@ -10,6 +10,7 @@ use Rattle.model.specs.Edition.{edition32, most_rows}
 use Rattle.model.specs.Cap.{is_cnode, first_row, slots}
 use Rattle.model.specs.Tables.{cap_of}
 use Rattle.removal.specs.Marking.{row_count, Nodes}
+use Rattle.removal.proofs.AtHand.{first_of}
 use Rattle.removal.proofs.Slots.{marks_none, marks_then, marks_as, between_none, between_next, between_all, radix_small, slots_shifted}
 use Rattle.removal.proofs.following.mark_slots.Goals as goal
 
@@ -25,12 +26,8 @@ module _ (t : List ℕ) (node : ℕ) (cap : Cap) (known : cap ≡ cap_of t node)
   shift = radix_small cap few
 
   module _ (first : ℕ) (is : first ≡ cap.address.0 / 16) where
-    begins : first_row edition32 (cap_of t node) ≡ first
-    unfolding first_row
-    begins = ap (first_row edition32) (sym known) ∙ sym is
-
     ends : first_row edition32 (cap_of t node) + slots (cap_of t node) ≡ first + 1 * 2 ^ cap.size % 4294967296
-    ends = omega (arith, begins, slots_shifted cap few, ap slots known)
+    ends = omega (arith, first_of t node cap known first is, slots_shifted cap few, ap slots known)
 
     within : first + 1 * 2 ^ cap.size % 4294967296 ≤ row_count t
     within = omega (arith, ends, fit)
@@ -55,4 +52,4 @@ returns c =
     let known = c.cap_at-cap.ensures in
     let (b, n) = c.requires.node in
     let is = c.row_of-first.ensures in
-    marks_as _ _ _ _ (λ j. between_all _ c.args.node _ _ j n (begins _ _ _ known c.requires.nodes b n _ is) (omega (arith, ends _ _ _ known c.requires.nodes b n _ is, i.1, c.loop-row-test.false))) i.3
+    marks_as _ _ _ _ (λ j. between_all _ c.args.node _ _ j n (first_of _ _ _ known _ is) (omega (arith, ends _ _ _ known c.requires.nodes b n _ is, i.1, c.loop-row-test.false))) i.3

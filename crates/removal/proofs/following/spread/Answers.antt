@@ -9,16 +9,17 @@ use Rattle.removal.specs.Marking.{row_count, Lost}
 use Rattle.removal.proofs.Marking.{counted_few}
 use Rattle.removal.proofs.Spreading.{growing_node, waiting_next, spread_all}
 use Rattle.removal.proofs.following.spread.Goals as goal
+use Rattle.removal.proofs.following.spread.Goals.{In-loop-taken}
+
+-- a place whose turn comes is in `work`
+in_work : (c : In-loop-taken) → c.loop-taken.taken < most_rows
+in_work c = omega (arith, counted_few c.loop-taken.invariant.0, c.requires.nodes.few, c.loop-taken-test.true)
 
 pub offset_bounds-work-taken : goal.offset_bounds-work-taken
-offset_bounds-work-taken c =
-    let at : c.loop-taken.taken < most_rows = omega (arith, counted_few c.loop-taken.invariant.0, c.requires.nodes.few, c.loop-taken-test.true) in
-    omega (arith, at)
+offset_bounds-work-taken c = omega (arith, in_work (goal.at.offset_bounds-work-taken c).In-loop-taken)
 
 pub bounds-work-taken : goal.bounds-work-taken
-bounds-work-taken c =
-    let at : c.loop-taken.taken < most_rows = omega (arith, counted_few c.loop-taken.invariant.0, c.requires.nodes.few, c.loop-taken-test.true) in
-    at
+bounds-work-taken c = in_work (goal.at.bounds-work-taken c).In-loop-taken
 
 pub loop-taken-smaller : goal.loop-taken-smaller
 loop-taken-smaller c = omega (arith, counted_few c.loop-taken.invariant.0, c.loop-taken-test.true)
@@ -29,8 +30,8 @@ loop-taken-preserved c =
     let n = c.requires.nodes in
     let i = c.loop-taken.invariant in (
       c.mark_slots-ready.ensures.counted,
-      waiting_next _ _ n c.loop-taken.taken c.loop-taken-test.true (lost) c.mark_slots-ready.ensures i.1,
-      growing_node _ _ n _ i.0 (lost) c.mark_slots-ready.ensures i.2,
+      waiting_next _ _ n c.loop-taken.taken c.loop-taken-test.true lost c.mark_slots-ready.ensures i.1,
+      growing_node _ _ n _ i.0 lost c.mark_slots-ready.ensures i.2,
     )
 
 pub returns : goal.returns

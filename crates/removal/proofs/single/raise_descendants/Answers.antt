@@ -14,49 +14,42 @@ use Rattle.model.proofs.Words.Edited.{listed_under}
 use Rattle.model.proofs.Words.Runs.{raised_run}
 use Rattle.removal.specs.Marking.{row_count}
 use Rattle.removal.specs.Removing.{occupied}
-use Rattle.removal.proofs.Descent.{place, raised_start, row_below_n}
-use Rattle.removal.proofs.Raising.{there_of, Raised, raised_as, raised_table, raised_long, raised_spent, raised_end, raised_low, raised_row, raised_step}
+use Rattle.removal.proofs.Descent.{raised_start, stands, row_in}
+use Rattle.removal.proofs.Raising.{Raised, raised_as, raised_table, raised_long, raised_spent, raised_end, raised_low, raised_row, raised_step}
 use Rattle.removal.proofs.single.raise_descendants.Goals as goal
 
--- where the row stands, and that it is in the table
-module _ (t : Tables) (well : well_formed edition32 t ≡ true) (row : ℕ) (there : occupied t row ≡ true) where
-  stands : At row (read edition32 t).forest
-  stands = place t well row (there_of t row there)
+-- in a turn the table keeps its length, and the next row is in it
+module _ (t : Tables) (well : well_formed edition32 t ≡ true) (row : ℕ) (there : occupied t row ≡ true) (u : List ℕ) (depth next rows : ℕ)
+    (inv : (p : At row (read edition32 t).forest) → Raised (row_count t.table) u depth (raised_run t.table (listed_under p)) next rows) where
+  at_row : (next ≡ 4294967295 → ⊥) → next < row_count t.table
+  at_row ne = raised_row _ _ _ _ _ _ (inv (stands t well row there)) ne
 
-  row_in : row < row_count t.table
-  row_in = row_below_n t well row stands
+  long : length u ≡ 8 * row_count t.table
+  long = raised_long _ _ _ _ _ _ (inv (stands t well row there))
 
-  -- in a turn the table keeps its length, and the next row is in it
-  module _ (u : List ℕ) (depth next rows : ℕ) (inv : (p : At row (read edition32 t).forest) → Raised (row_count t.table) u depth (raised_run t.table (listed_under p)) next rows) where
-    at_row : (next ≡ 4294967295 → ⊥) → next < row_count t.table
-    at_row ne = raised_row _ _ _ _ _ _ (inv stands) ne
-
-    long : length u ≡ 8 * row_count t.table
-    long = raised_long _ _ _ _ _ _ (inv stands)
-
-    next_in : (next ≡ 4294967295 → ⊥) → next * 8 + 8 ≤ length u
-    next_in ne = omega (arith, at_row ne, long)
+  next_in : (next ≡ 4294967295 → ⊥) → next * 8 + 8 ≤ length u
+  next_in ne = omega (arith, at_row ne, long)
 
 pub word-depth-requires : goal.word-depth-requires
-word-depth-requires c = (omega arith, omega (arith, row_in (record { table = c.args.t.now; control = c.args.control.now }) c.requires.formed c.args.row c.requires.occupied))
+word-depth-requires c = (omega arith, omega (arith, row_in _ c.requires.formed _ c.requires.occupied))
 
 pub word-next-requires : goal.word-next-requires
-word-next-requires c = (omega arith, omega (arith, row_in (record { table = c.args.t.now; control = c.args.control.now }) c.requires.formed c.args.row c.requires.occupied))
+word-next-requires c = (omega arith, omega (arith, row_in _ c.requires.formed _ c.requires.occupied))
 
 pub loop-rows-init : goal.loop-rows-init
-loop-rows-init c = λ p. raised_as _ _ _ _ _ _ c.word-depth.ensures c.word-next.ensures (raised_start (record { table = c.args.t.now; control = c.args.control.now }) c.requires.formed c.args.row p)
+loop-rows-init c = λ p. raised_as _ _ _ _ _ _ c.word-depth.ensures c.word-next.ensures (raised_start _ c.requires.formed _ p)
 
 pub returns-then-next : goal.returns-then-next
 returns-then-next c = record { is = λ p. raised_end _ _ _ _ _ _ (c.loop-rows.invariant p) c.if-next.true }
 
 pub word-deep-requires : goal.word-deep-requires
-word-deep-requires c = (omega arith, next_in (record { table = c.args.t.now; control = c.args.control.now }) c.requires.formed c.args.row c.requires.occupied _ _ _ _ c.loop-rows.invariant c.if-next.false)
+word-deep-requires c = (omega arith, next_in _ c.requires.formed _ c.requires.occupied _ _ _ _ c.loop-rows.invariant c.if-next.false)
 
 pub word-after-requires : goal.word-after-requires
-word-after-requires c = (omega arith, next_in (record { table = c.args.t.now; control = c.args.control.now }) c.requires.formed c.args.row c.requires.occupied _ _ _ _ c.loop-rows.invariant c.if-next.false)
+word-after-requires c = (omega arith, next_in _ c.requires.formed _ c.requires.occupied _ _ _ _ c.loop-rows.invariant c.if-next.false)
 
 pub put-requires : goal.put-requires
-put-requires c = (omega arith, next_in (record { table = c.args.t.now; control = c.args.control.now }) c.requires.formed c.args.row c.requires.occupied _ _ _ _ c.loop-rows.invariant c.if-next.false)
+put-requires c = (omega arith, next_in _ c.requires.formed _ c.requires.occupied _ _ _ _ c.loop-rows.invariant c.if-next.false)
 
 pub returns-then-deep-depth : goal.returns-then-deep-depth
 returns-then-deep-depth c = record { is = λ p. raised_low _ _ _ _ _ _ (c.loop-rows.invariant p) (omega (arith, c.word-deep.ensures, c.if-deep-depth.true)) }

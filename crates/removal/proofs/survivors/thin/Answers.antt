@@ -11,50 +11,42 @@ use Rattle.removal.proofs.Marking.{unmarked, is_marked}
 use Rattle.removal.proofs.Walking.{walk_row, walk_small, walk_long, walk_as, walk_drop, walk_keep}
 use Rattle.removal.proofs.Tables.{zeros, walk_start, thins}
 use Rattle.removal.proofs.survivors.thin.Goals as goal
-use Rattle.removal.proofs.survivors.thin.Goals.{then-mark-row-ne0, else-mark-row-ne0}
+use Rattle.removal.proofs.survivors.thin.Goals.{In-loop-left, After-word-deep, then-mark-row-ne0, else-mark-row-ne0}
+
+-- in a turn the row is in the table
+in_table : (c : In-loop-left) → c.loop-left.row * 8 + 8 ≤ length c.loop-left.t
+in_table c = omega (arith, walk_row _ _ _ _ _ _ _ _ _ _ _ _ c.loop-left.invariant c.loop-left-test.true, walk_long _ _ _ _ _ _ _ _ _ _ _ _ c.loop-left.invariant)
+
+-- and its depth has a place in `low`
+depth_small : (c : After-word-deep) → c.word-deep.result < most_rows
+depth_small c = omega (arith, c.word-deep.ensures, walk_small _ _ _ _ _ _ _ _ _ _ _ _ c.loop-left.invariant c.loop-left-test.true)
 
 pub loop-left-init : goal.loop-left-init
-loop-left-init c = walk_start (record { table = c.args.t.now; control = c.args.control.now }) c.requires _ _ (zeros (most_rows + 1))
+loop-left-init c = walk_start _ c.requires _ _ (zeros (most_rows + 1))
 
 pub word-next-requires : goal.word-next-requires
-word-next-requires c =
-    let in_table : c.loop-left.row * 8 + 8 ≤ length c.loop-left.t = omega (arith, walk_row _ _ _ _ _ _ _ _ _ _ _ _ c.loop-left.invariant c.loop-left-test.true, walk_long _ _ _ _ _ _ _ _ _ _ _ _ c.loop-left.invariant) in
-    (omega arith, in_table)
+word-next-requires c = (omega arith, in_table (goal.at.word-next-requires c).In-loop-left)
 
 pub word-deep-requires : goal.word-deep-requires
-word-deep-requires c =
-    let in_table : c.loop-left.row * 8 + 8 ≤ length c.loop-left.t = omega (arith, walk_row _ _ _ _ _ _ _ _ _ _ _ _ c.loop-left.invariant c.loop-left-test.true, walk_long _ _ _ _ _ _ _ _ _ _ _ _ c.loop-left.invariant) in
-    (omega arith, in_table)
+word-deep-requires c = (omega arith, in_table (goal.at.word-deep-requires c).In-loop-left)
 
 pub bounds-low-depth : goal.bounds-low-depth
-bounds-low-depth c =
-    let depth_small : c.word-deep.result < most_rows = omega (arith, c.word-deep.ensures, walk_small _ _ _ _ _ _ _ _ _ _ _ _ c.loop-left.invariant c.loop-left-test.true) in
-    omega (arith, depth_small)
+bounds-low-depth c = omega (arith, depth_small (goal.at.bounds-low-depth c).After-word-deep)
 
 pub bounds-mark-row : goal.bounds-mark-row
-bounds-mark-row c =
-    let at_row : c.loop-left.row < most_rows = omega (arith, walk_row _ _ _ _ _ _ _ _ _ _ _ _ c.loop-left.invariant c.loop-left-test.true, rows_small (record { table = c.args.t.now; control = c.args.control.now }) c.requires) in
-    at_row
+bounds-mark-row c = omega (arith, walk_row _ _ _ _ _ _ _ _ _ _ _ _ c.loop-left.invariant c.loop-left-test.true, rows_small _ c.requires)
 
 pub unlink-requires : goal.unlink-requires
-unlink-requires c =
-    let in_table : c.loop-left.row * 8 + 8 ≤ length c.loop-left.t = omega (arith, walk_row _ _ _ _ _ _ _ _ _ _ _ _ c.loop-left.invariant c.loop-left-test.true, walk_long _ _ _ _ _ _ _ _ _ _ _ _ c.loop-left.invariant) in
-    in_table
+unlink-requires c = in_table (goal.at.unlink-requires c).In-loop-left
 
 pub bounds-low-depth-then-mark-row-ne0 : goal.bounds-low-depth-then-mark-row-ne0
-bounds-low-depth-then-mark-row-ne0 c =
-    let depth_small : c.word-deep.result < most_rows = omega (arith, c.word-deep.ensures, walk_small _ _ _ _ _ _ _ _ _ _ _ _ c.loop-left.invariant c.loop-left-test.true) in
-    omega (arith, depth_small)
+bounds-low-depth-then-mark-row-ne0 c = omega (arith, depth_small (goal.at.bounds-low-depth-then-mark-row-ne0 c).After-word-deep)
 
 pub put-requires : goal.put-requires
-put-requires c =
-    let in_table : c.loop-left.row * 8 + 8 ≤ length c.loop-left.t = omega (arith, walk_row _ _ _ _ _ _ _ _ _ _ _ _ c.loop-left.invariant c.loop-left-test.true, walk_long _ _ _ _ _ _ _ _ _ _ _ _ c.loop-left.invariant) in
-    (omega arith, in_table)
+put-requires c = (omega arith, in_table (goal.at.put-requires c).In-loop-left)
 
 pub bounds-low-depth-else-mark-row-ne0 : goal.bounds-low-depth-else-mark-row-ne0
-bounds-low-depth-else-mark-row-ne0 c =
-    let depth_small : c.word-deep.result < most_rows = omega (arith, c.word-deep.ensures, walk_small _ _ _ _ _ _ _ _ _ _ _ _ c.loop-left.invariant c.loop-left-test.true) in
-    omega (arith, depth_small)
+bounds-low-depth-else-mark-row-ne0 c = omega (arith, depth_small (goal.at.bounds-low-depth-else-mark-row-ne0 c).After-word-deep)
 
 pub loop-left-preserved : goal.loop-left-preserved
 loop-left-preserved c =
@@ -74,4 +66,4 @@ loop-left-preserved c =
     ]
 
 pub returns : goal.returns
-returns c = thins (record { table = c.args.t.now; control = c.args.control.now }) c.requires _ _ _ (zeros (most_rows + 1)) _ _ _ _ _ _ c.loop-left.invariant (omega (arith, c.loop-left-test.false))
+returns c = thins _ c.requires _ _ _ (zeros (most_rows + 1)) _ _ _ _ _ _ c.loop-left.invariant (omega (arith, c.loop-left-test.false))
