@@ -1,18 +1,20 @@
 -- `lookup::lookup` meets its contract: at each way out of the loop, the law of `Levels` for it, from the tests that led there.
 -- The measure is the bits left. Assumes nothing.
-use Prim.Native.Nat.{ℕ, ◌+◌, ◌*◌, ◌≤◌, ◌<◌}
+use Prim.Native.Nat.{ℕ, ◌+◌, ◌-◌, ◌*◌, ◌/◌, ◌≤◌, ◌<◌}
 use mathlib.Core.Path.{◌≡◌, sym, ap₂, ◌∙◌}
-use mathlib.Core.Bool.{false}
+use mathlib.Core.List.{List}
 use native.Mathlib.Omega.{arith}
 use borrow.Author.Tests.{le-leb, lt-leb, eq-eqb, ne_eqb}
 use lib.ListN.{length}
+use Rattle.model.specs.declared.Cap.{Cap}
 use Rattle.model.specs.Edition.{edition32}
 use Rattle.model.specs.Lists.{within}
 use Rattle.model.specs.Cap.{is_cnode, first_row}
 use Rattle.model.specs.Tables.{cap_of}
-use Rattle.model.specs.Lookup.{guard_missed, taken, picked, lookup}
+use Rattle.model.specs.Lookup.{field, taken, picked, lookup}
 use Rattle.model.proofs.Booleans.{parts_within}
 use Rattle.lookup.proofs.Levels.{picked_inside, guard_missed_lem, too_deep, done, no_node, node, ends, goes_on}
+use Rattle.lookup.specs.Ready.{Usable}
 use Rattle.lookup.proofs.lookup.Goals as goal
 use Rattle.lookup.proofs.lookup.Goals.{then-depth-lt1-via-else-depth-lt1+then-depth-gt32, then-depth-lt1-via-then-depth-lt1}
 
@@ -26,7 +28,10 @@ pub returns-then-depth-lt1 : goal.returns-then-depth-lt1
 unfolding is_cnode lookup within
 returns-then-depth-lt1 c =
     rw (lookup, eq-eqb _ 5 c.if-root-ne-CNODE.false)
-    ((elim c.then-depth-lt1.branch [ then-depth-lt1-via-then-depth-lt1 w ↦ rw (lt-leb 1 _ w.if-depth-lt1.true) | then-depth-lt1-via-else-depth-lt1+then-depth-gt32 w ↦ rw (le-leb 1 _ w.if-depth-lt1.false) (rw (lt-leb c.args.depth 32 (omega (arith, w.if-depth-gt32.true)))) ]))
+    (elim c.then-depth-lt1.branch [
+      | then-depth-lt1-via-then-depth-lt1 w ↦ rw (lt-leb 1 _ w.if-depth-lt1.true)
+      | then-depth-lt1-via-else-depth-lt1+then-depth-gt32 w ↦ rw (le-leb 1 _ w.if-depth-lt1.false) (rw (lt-leb c.args.depth 32 (omega (arith, w.if-depth-gt32.true))))
+    ])
 
 pub loop-node-init : goal.loop-node-init
 unfolding is_cnode lookup
@@ -48,72 +53,57 @@ loop-node-init c =
 pub returns-then-missed : goal.returns-then-missed
 returns-then-missed c = ends c.loop-node.invariant (guard_missed_lem _ _ _ _ _ (sym c.guard_missed-missed.ensures ∙ c.if-missed.true))
 
--- past the guard
-
--- the head of the loop
-
 pub returns-then-left-taken : goal.returns-then-left-taken
 unfolding taken
-returns-then-left-taken c =
-    let met : guard_missed c.loop-node.node c.args.address c.loop-node.left ≡ false = sym c.guard_missed-missed.ensures ∙ c.if-missed.false in
-    ends c.loop-node.invariant (too_deep _ _ _ _ _ (met) c.if-left-taken.true)
+returns-then-left-taken c = ends c.loop-node.invariant (too_deep _ _ _ _ _ (sym c.guard_missed-missed.ensures ∙ c.if-missed.false) c.if-left-taken.true)
 
--- ---- where the slot is known
+-- ---- the slot
 
--- the row of the slot
+-- the row that the code works out is the one that the level picks, and lies in the table
+module _ (node : Cap) (address left first slot : ℕ) (begins : first ≡ node.address.0 / 16) (among : slot ≡ field address (left - node.fourth) node.size) where
+  there : first + slot ≡ picked edition32 node address left
+  unfolding first_row picked
+  there = ap₂ ◌+◌ begins among
+
+  inside : (t : List ℕ) → Usable t node → (first + slot) * 8 + 8 ≤ length t
+  inside t usable = rw there (picked_inside t node address left usable)
 
 pub overflow_add-row : goal.overflow_add-row
-unfolding first_row picked
-overflow_add-row c =
-    let row : ℕ = c.row_of-first.result.0 + c.field.result in
-    let there : row ≡ picked edition32 c.loop-node.node c.args.address c.loop-node.left = ap₂ ◌+◌ c.row_of-first.ensures c.field.ensures in
-    let inside : row * 8 + 8 ≤ length c.args.t.now = rw (there) (picked_inside _ _ _ _ c.loop-node.invariant.usable) in
-    omega (arith, inside, c.requires.ready.small)
+overflow_add-row c = omega (arith, inside _ _ _ _ _ c.row_of-first.ensures c.field.ensures _ c.loop-node.invariant.usable, c.requires.ready.small)
 
 pub returns-then-left-taken-2 : goal.returns-then-left-taken-2
-unfolding first_row picked taken
+unfolding taken
 returns-then-left-taken-2 c =
-    let met : guard_missed c.loop-node.node c.args.address c.loop-node.left ≡ false = sym c.guard_missed-missed.ensures ∙ c.if-missed.false in
-    let row : ℕ = c.row_of-first.result.0 + c.field.result in
-    let there : row ≡ picked edition32 c.loop-node.node c.args.address c.loop-node.left = ap₂ ◌+◌ c.row_of-first.ensures c.field.ensures in
-    ends c.loop-node.invariant (done _ _ _ _ _ (met) _ (there) c.if-left-taken-2.true)
+    ends c.loop-node.invariant
+    (done _ _ _ _ _ (sym c.guard_missed-missed.ensures ∙ c.if-missed.false) _ (there _ _ _ _ _ c.row_of-first.ensures c.field.ensures) c.if-left-taken-2.true)
 
 pub cap_at-next-requires : goal.cap_at-next-requires
-unfolding first_row picked
-cap_at-next-requires c =
-    let row : ℕ = c.row_of-first.result.0 + c.field.result in
-    let there : row ≡ picked edition32 c.loop-node.node c.args.address c.loop-node.left = ap₂ ◌+◌ c.row_of-first.ensures c.field.ensures in
-    let inside : row * 8 + 8 ≤ length c.args.t.now = rw (there) (picked_inside _ _ _ _ c.loop-node.invariant.usable) in
-    inside
+cap_at-next-requires c = inside _ _ _ _ _ c.row_of-first.ensures c.field.ensures _ c.loop-node.invariant.usable
 
 -- ---- below the slot
 
--- the slot's capability is read
+-- a level that ends before the address does
+more : (node : Cap) (left : ℕ) → node.fourth + node.size ≤ left → (left ≡ node.fourth + node.size → ⊥) → taken node < left
+unfolding taken
+more node left deep on = omega arith
 
 pub returns-then-next-ne-CNODE : goal.returns-then-next-ne-CNODE
-unfolding first_row is_cnode picked taken
+unfolding taken is_cnode
 returns-then-next-ne-CNODE c =
-    let met : guard_missed c.loop-node.node c.args.address c.loop-node.left ≡ false = sym c.guard_missed-missed.ensures ∙ c.if-missed.false in
-    let deep : taken c.loop-node.node ≤ c.loop-node.left = c.if-left-taken.false in
-    let more : taken c.loop-node.node < c.loop-node.left = omega (arith, deep, c.if-left-taken-2.false) in
-    let row : ℕ = c.row_of-first.result.0 + c.field.result in
-    let there : row ≡ picked edition32 c.loop-node.node c.args.address c.loop-node.left = ap₂ ◌+◌ c.row_of-first.ensures c.field.ensures in
     let other = rw c.cap_at-next.ensures at c.if-next-ne-CNODE.true in
-    ends c.loop-node.invariant (no_node _ _ _ _ _ (met) _ (there) (more) (ne_eqb _ 5 other))
+    ends c.loop-node.invariant
+    (no_node _ _ _ _ _ (sym c.guard_missed-missed.ensures ∙ c.if-missed.false) _ (there _ _ _ _ _ c.row_of-first.ensures c.field.ensures)
+    (more c.loop-node.node _ c.if-left-taken.false c.if-left-taken-2.false) (ne_eqb _ 5 other))
 
 pub loop-node-preserved : goal.loop-node-preserved
-unfolding first_row is_cnode picked taken
+unfolding taken is_cnode
 loop-node-preserved c =
-    let met : guard_missed c.loop-node.node c.args.address c.loop-node.left ≡ false = sym c.guard_missed-missed.ensures ∙ c.if-missed.false in
-    let deep : taken c.loop-node.node ≤ c.loop-node.left = c.if-left-taken.false in
-    let more : taken c.loop-node.node < c.loop-node.left = omega (arith, deep, c.if-left-taken-2.false) in
-    let row : ℕ = c.row_of-first.result.0 + c.field.result in
-    let there : row ≡ picked edition32 c.loop-node.node c.args.address c.loop-node.left = ap₂ ◌+◌ c.row_of-first.ensures c.field.ensures in
+    let deeper = more c.loop-node.node _ c.if-left-taken.false c.if-left-taken-2.false in
     let next = c.cap_at-next.ensures in
-    let is : (cap_of c.args.t.now row).kind ≡ 5 = rw next at c.if-next-ne-CNODE.false in
+    let is : (cap_of c.args.t.now (c.row_of-first.result.0 + c.field.result)).kind ≡ 5 = rw next at c.if-next-ne-CNODE.false in
     rw next
     (goes_on c.loop-node.invariant
-    (node _ _ _ _ _ (met) _ (there) (more) (eq-eqb _ 5 is))
-    (c.requires.ready.nodes (row) (eq-eqb _ 5 is))
-    (omega (arith, more))
-    (omega (arith, more, c.loop-node.invariant.usable.wide)))
+    (node _ _ _ _ _ (sym c.guard_missed-missed.ensures ∙ c.if-missed.false) _ (there _ _ _ _ _ c.row_of-first.ensures c.field.ensures) deeper (eq-eqb _ 5 is))
+    (c.requires.ready.nodes (c.row_of-first.result.0 + c.field.result) (eq-eqb _ 5 is))
+    (omega (arith, deeper))
+    (omega (arith, deeper, c.loop-node.invariant.usable.wide)))
