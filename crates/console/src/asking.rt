@@ -30,6 +30,7 @@ fn if_so(fits: bool, command: Command) -> Command
 }
 
 // A command by the key of its first word, in hexadecimal 1 and then the word in ASCII, and the count of its numbers.
+#[tactic(auto, unfolding(crate::specs::Asking::by_key))]
 fn by_key(key: u64, count: usize) -> Command
     ensures { result ≡ by_key key count }
 {

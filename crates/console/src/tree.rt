@@ -39,6 +39,7 @@ fn put_named(out: &mut [u8], pen: Pen, name: &[u8], n: u32) -> Pen
 }
 
 // The name of a kind.
+#[tactic(auto, unfolding(crate::specs::Drawn::kind_text))]
 fn put_kind(out: &mut [u8], pen: Pen, kind: u32) -> Pen
     ensures { Writes out.old pen (kind_text kind) out.new result }
 {
@@ -53,6 +54,7 @@ fn put_kind(out: &mut [u8], pen: Pen, kind: u32) -> Pen
 }
 
 // The name of rights: write 1, read 2, grant 4.
+#[tactic(auto, unfolding(crate::specs::Drawn::rights_name))]
 fn put_rights_name(out: &mut [u8], pen: Pen, rights: u32) -> Pen
     ensures { Writes out.old pen (rights_name rights) out.new result }
 {
@@ -96,6 +98,7 @@ fn put_badge(out: &mut [u8], pen: Pen, cap: Cap) -> Pen
 }
 
 // What a capability holds beside its kind and address.
+#[tactic(auto, unfolding(crate::specs::Drawn::details_text))]
 fn put_details(out: &mut [u8], pen: Pen, cap: Cap) -> Pen
     ensures { Writes out.old pen (details_text cap) out.new result }
 {

@@ -15,6 +15,7 @@ pub fn word_at(words: &[u32], i: usize) -> u32
 }
 
 // The operation by its number.
+#[tactic(auto, unfolding(model::specs::Request::operation_of))]
 pub fn operation_of(n: u32) -> Operation
     ensures { result ≡ spec.operation_of n }
 {
@@ -32,6 +33,7 @@ pub fn operation_of(n: u32) -> Operation
 }
 
 // The operation is of the capability's kind: Retype is Untyped's, the rest CNode's.
+#[tactic(auto, unfolding(model::specs::Cap::is_cnode, model::specs::Cap::is_untyped))]
 pub fn invokes(c: Cap, operation: Operation) -> bool
     ensures { result ≡ spec.invokes c operation }
 {

@@ -1,9 +1,6 @@
 -- Each way out is Boot's: what was tested before it decides which.
-use Rattle.std.specs.Prelude.{◌≡◌, true}
 use mathlib.Core.Path.{sym}
 use native.Mathlib.Omega.{arith}
-use Rattle.model.specs.Edition.{edition32}
-use Rattle.model.specs.Rules.{lengths_fit}
 use Rattle.model.proofs.Words.Bounds.{radix_room}
 use Rattle.zhvanirek_core.proofs.BootAnswers.{m_out_of_range, r_out_of_range, lengths, four_stored, other_length, fresh_host}
 use Rattle.zhvanirek_core.proofs.boot.Goals as goal
@@ -30,6 +27,5 @@ overflow_sub-control-2 c = omega (arith, radix_room _ (sym c.if-not-m_in_range.e
 
 pub returns : goal.returns
 returns c =
-    let fit : lengths_fit edition32 c.args.m (record { table = c.args.table.now; control = c.args.control.now }) ≡ true = sym c.if-not-lengths_fit.ensures in
-    rw (four_stored _ _ _ _ _ (lengths _ _ fit).1, c.fill.ensures)
-    (fresh_host _ _ _ (sym c.if-not-m_in_range.ensures) (sym c.if-not-r_in_range.ensures) fit)
+    rw (four_stored _ _ _ _ _ (lengths _ _ (sym c.if-not-lengths_fit.ensures)).1, c.fill.ensures)
+    (fresh_host _ _ _ (sym c.if-not-m_in_range.ensures) (sym c.if-not-r_in_range.ensures) (sym c.if-not-lengths_fit.ensures))

@@ -7,19 +7,13 @@ use Rattle.retype.proofs.Bytes.{bytes_small, at_small, short, enough}
 use Rattle.retype.proofs.memory.memory_for.Goals as goal
 
 pub overflow_cast-e : goal.overflow_cast-e
-overflow_cast-e c =
-    let small : c.exponent-e.result ≤ 34 = rw c.exponent-e.ensures (exponent_small _ _ c.requires.known) in
-    omega (arith, small)
+overflow_cast-e c = omega (arith, c.exponent-e.ensures, exponent_small _ _ c.requires.known)
 
 pub overflow_shr-free : goal.overflow_shr-free
-overflow_shr-free c =
-    let small : c.exponent-e.result ≤ 34 = rw c.exponent-e.ensures (exponent_small _ _ c.requires.known) in
-    omega (arith, small)
+overflow_shr-free c = omega (arith, c.exponent-e.ensures, exponent_small _ _ c.requires.known)
 
 pub overflow_cast-short : goal.overflow_cast-short
-overflow_cast-short c =
-    let few : c.bytes_of.result ≤ 32768 = rw c.bytes_of.ensures (bytes_small _ c.requires.small) in
-    omega (arith, few)
+overflow_cast-short c = omega (arith, c.bytes_of.ensures, bytes_small c.args.u c.requires.small)
 
 pub returns-then-free-e : goal.returns-then-free-e
 returns-then-free-e c = short _ _ _ _ _ c.bytes_of.ensures c.exponent-e.ensures c.if-free-e.true

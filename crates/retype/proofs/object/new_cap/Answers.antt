@@ -16,16 +16,16 @@ use Rattle.retype.proofs.object.new_cap.Goals as goal
 use Rattle.retype.proofs.object.new_cap.Goals.{else-object-ne4, then-object-ne4}
 
 -- a CNode's radix, else the power of two of the object's bytes
-abbrev shownSize : (object size : ℕ) → ℕ
-shownSize object size = cond (eqb object 4) size (exponent edition32 object size)
+abbrev shown_size : (object size : ℕ) → ℕ
+shown_size object size = cond (eqb object 4) size (exponent edition32 object size)
 
-shown : (object size a e : ℕ) → a ≡ e → e ≡ exponent edition32 object size → (object ≡ 4 → ⊥) → a ≡ shownSize object size
+shown : (object size a e : ℕ) → a ≡ e → e ≡ exponent edition32 object size → (object ≡ 4 → ⊥) → a ≡ shown_size object size
 shown object size a e p q h = rw (ne_eqb object 4 h, p, q)
 
-plain : (object size a : ℕ) → a ≡ size → object ≡ 4 → a ≡ shownSize object size
+plain : (object size a : ℕ) → a ≡ size → object ≡ 4 → a ≡ shown_size object size
 plain object size a p h = rw (p, h)
 
-fields : (object size s rights : ℕ) (a : Address) → s ≡ shownSize object size → rights ≡ rights_of (1 + object)
+fields : (object size s rights : ℕ) (a : Address) → s ≡ shown_size object size → rights ≡ rights_of (1 + object)
     → ◌≡◌ {A = Cap} (record { kind = 1 + object; address = a; size = s; third = 0; fourth = rights }) (new_cap edition32 object size a.0)
 unfolding new_cap
 fields object size s rights a p q = rw (p, q)

@@ -8,8 +8,6 @@ use Rattle.retype.proofs.place.first_slot.Goals as goal
 pub returns-in-Barred : goal.returns-in-Barred
 returns-in-Barred c = first_barred _ _ _ _ c.in-Barred.ensures
 
--- the type and the size have passed
-
 pub returns-in-Refused : goal.returns-in-Refused
 returns-in-Refused c = first_no_node _ _ _ c.in_default.ensures _ c.in-Refused.ensures
 

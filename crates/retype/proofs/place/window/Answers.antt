@@ -8,7 +8,6 @@ use native.Mathlib.Omega.{arith}
 use lib.Dec.{eqb, ltb}
 use lib.Pow.{pow_pos}
 use borrow.Author.Tests.{eq-eqb, ne_eqb, lt-ltb, le-ltb}
-use Rattle.model.specs.Edition.{most_rows}
 use Rattle.model.specs.Cap.{slots, first_row}
 use Rattle.retype.proofs.Windows.{node_kind, no_node, radix_small, offset_beyond, window_out, window_wide, window_fits}
 use Rattle.retype.proofs.place.window.Goals as goal
@@ -29,12 +28,8 @@ returns-then-n-ne-CNODE c = no_node _ _ _ c.if-n-ne-CNODE.true
 pub slots_of-slots-requires : goal.slots_of-slots-requires
 slots_of-slots-requires c = omega (arith, radix_small _ c.requires c.if-n-ne-CNODE.false)
 
--- the slots that are there
-
 pub overflow_cast-slots : goal.overflow_cast-slots
-overflow_cast-slots c =
-    let few : c.slots_of-slots.result ≤ most_rows = omega (arith, c.slots_of-slots.ensures, c.requires (node_kind _ c.if-n-ne-CNODE.false)) in
-    omega (arith, few)
+overflow_cast-slots c = omega (arith, c.slots_of-slots.ensures, c.requires (node_kind _ c.if-n-ne-CNODE.false))
 
 pub overflow_sub-last : goal.overflow_sub-last
 unfolding slots
