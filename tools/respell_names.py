@@ -41,13 +41,12 @@ def defined(text):
 
 
 def snake(name):
-    name = re.sub(r"(?<=[a-z0-9'])(?=[A-Z])", "_", name) if not name[0].isupper() else name
-    parts = name.replace("-", "_")
-    return parts if name[0].isupper() else parts.lower()
+    return re.sub(r"(?<=[a-z0-9'])(?=[A-Z])", "_", name).replace("-", "_").lower()
 
 
 def wanted(name):
-    return name[0].islower() and name.replace("-", "").replace("_", "").replace("'", "").isalnum() and (re.search(r"[a-z0-9'][A-Z]", name) or "-" in name)
+    """A word, not a type or an operator, with a hump or a dash."""
+    return name[0].islower() and re.sub(r"[-_']", "", name).isalnum() and snake(name) != name
 
 
 def step_aside(name):
@@ -91,7 +90,7 @@ def main():
         text = read(path)
         for m in USE.finditer(text):
             module = m.group(1).split(".")
-            if module[0] != "Rattle" or not os.path.isdir("crates/" + module[1]) or module[1:3] == ["core", "std"]:
+            if module[0] != "Rattle" or not os.path.isdir("crates/" + module[1]):
                 imported.update(w.strip().split(" as ")[0] for w in m.group(2).split(","))
         if "/specs/" in path or os.path.basename(path) not in ("Proof.antt", "Answers.antt", "Invariants.antt"):
             own.update(defined(text))
@@ -110,8 +109,6 @@ def main():
                 free = False
             else:
                 turned[n] = new + "_lem"
-                while turned[n] in taken or turned[n] in set(turned[k] for k in turned if k != n):
-                    turned[n] += "_lem"
                 print(f"{n} -> {turned[n]}")
     print(f"{len(turned)} names")
     for path in sorted([*files(".antt"), *files(".rt"), *files(".edit")]):
