@@ -1,5 +1,6 @@
 -- A slot that lookup finds lies in the table: it is picked by a usable CNode, since every CNode on the way is usable.
 -- Assumes nothing.
+use Rattle.std.specs.Prelude.{Ok, Err}
 use Prim.Native.Nat.{ℕ, zero, suc, ◌+◌, ◌-◌, ◌*◌, ◌≤◌}
 use mathlib.Core.Path.{◌≡◌, refl, subst}
 use mathlib.Core.Bool.{Bool, true, false, cond, not}
@@ -10,8 +11,8 @@ use borrow.Author.Tests.{not-false}
 use Rattle.model.specs.Edition.{edition32}
 use Rattle.model.specs.declared.Cap.{Cap}
 use Rattle.model.specs.declared.Row.{Row}
-use Rattle.model.specs.declared.Looked.{Looked}
-use Rattle.model.specs.declared.Looked.TheVariants.{Slot, Failed, DepthOutOfRange}
+use Rattle.model.specs.Check.{Looked}
+use Rattle.model.specs.declared.Miss.TheVariants.{Failed, DepthOutOfRange}
 use Rattle.model.specs.Lists.{within}
 use Rattle.model.specs.Cap.{is_cnode}
 use Rattle.model.specs.Tables.{cap_of}
@@ -21,9 +22,9 @@ use Rattle.lookup.proofs.Levels.{picked_inside}
 
 -- what is found, if it is a slot, lies in the table
 abbrev InTable : List ℕ → Looked → Type 0
-InTable t (Slot k) = k.0 * 8 + 8 ≤ length t
-InTable t (Failed why) = Unit {0}
-InTable t DepthOutOfRange = Unit {0}
+InTable t (Ok k) = k.0 * 8 + 8 ≤ length t
+InTable t (Err (Failed why)) = Unit {0}
+InTable t (Err DepthOutOfRange) = Unit {0}
 
 -- both ways of a test
 both : (t : List ℕ) (b : Bool) (x y : Looked) → (b ≡ true → InTable t x) → (b ≡ false → InTable t y) → InTable t (cond b x y)
@@ -49,5 +50,5 @@ module _ (t : List ℕ) (ready : Ready t) where
         both t (not (is_cnode root)) _ _ (λ _. tt)
         (λ node. both t (not (within 1 depth 32)) _ _ (λ _. tt) (λ _. descend_in_table 32 root address depth (usable (not-false (is_cnode root) node))))
 
-    pub found_in_table : (address depth : ℕ) (k : Row) → lookup edition32 (cap_of t) root address depth ≡ Slot k → k.0 * 8 + 8 ≤ length t
+    pub found_in_table : (address depth : ℕ) (k : Row) → lookup edition32 (cap_of t) root address depth ≡ Ok k → k.0 * 8 + 8 ≤ length t
     found_in_table address depth k e = subst (InTable t) e (lookup_in_table address depth)

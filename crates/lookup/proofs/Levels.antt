@@ -1,5 +1,6 @@
 -- What one level of `descend` comes to, a law for each way out, over any edition and any `caps`; and what a loop over the levels keeps.
 -- Assumes nothing.
+use Rattle.std.specs.Prelude.{Ok, Err}
 use Prim.Native.Nat.{ℕ, zero, suc, ◌+◌, ◌-◌, ◌*◌, ◌/◌, ◌^◌, ◌≤◌, ◌<◌}
 use mathlib.Core.Path.{◌≡◌, sym, ◌∙◌}
 use mathlib.Core.Bool.{true, false}
@@ -12,8 +13,8 @@ use borrow.Author.Tests.{lt-ltb, le-ltb, eq-eqb, ne_eqb}
 use Rattle.model.specs.Edition.{Edition, edition32}
 use Rattle.model.specs.declared.Cap.{Cap}
 use Rattle.model.specs.declared.Failure.TheVariants.{DepthMismatch, GuardMismatch}
-use Rattle.model.specs.declared.Looked.{Looked}
-use Rattle.model.specs.declared.Looked.TheVariants.{Slot, Failed}
+use Rattle.model.specs.Check.{Looked}
+use Rattle.model.specs.declared.Miss.TheVariants.{Failed}
 use Rattle.model.specs.Cap.{is_cnode, first_row, slots}
 use Rattle.model.specs.Tables.{cap_of}
 use Rattle.model.specs.Lookup.{field, guard_missed, taken, picked, descend}
@@ -37,22 +38,22 @@ module _ (E : Edition) (caps : ℕ → Cap) (c : Cap) (address left : ℕ) where
   abbrev pub GoesOn : Cap → ℕ → Type 0
   GoesOn next rest = (n : ℕ) → descend E caps (suc n) c address left ≡ descend E caps n next address rest
 
-  pub guard_missed_lem : guard_missed c address left ≡ true → Ends (Failed (GuardMismatch left c.third c.fourth))
+  pub guard_missed_lem : guard_missed c address left ≡ true → Ends (Err (Failed (GuardMismatch left c.third c.fourth)))
   unfolding descend
   guard_missed_lem h n = simp (descend, h)
 
   module _ (met : guard_missed c address left ≡ false) where
-    pub too_deep : left < taken c → Ends (Failed (DepthMismatch left (taken c)))
+    pub too_deep : left < taken c → Ends (Err (Failed (DepthMismatch left (taken c))))
     unfolding descend
     too_deep h n = simp (descend, met, lt-ltb left (taken c) h)
 
     module _ (row : ℕ) (there : row ≡ picked E c address left) where
-      pub done : left ≡ taken c → Ends (Slot (record { 0 = row }))
+      pub done : left ≡ taken c → Ends (Ok (record { 0 = row }))
       unfolding descend
       done h n = simp (descend, met, le-ltb left (taken c) (omega arith), eq-eqb left (taken c) h, there)
 
       module _ (more : taken c < left) where
-        pub no_node : is_cnode (caps row) ≡ false → Ends (Failed (DepthMismatch (left - taken c) 0))
+        pub no_node : is_cnode (caps row) ≡ false → Ends (Err (Failed (DepthMismatch (left - taken c) 0)))
         unfolding descend
         no_node h n =
             let not_last : left ≡ taken c → ⊥ = omega arith in

@@ -1,4 +1,6 @@
 -- The memory of an Untyped in well-formed tables, allotted: what comes of the request, and that the stores which carry it out are possible.
+use Rattle.model.specs.declared.Refusal.{Refusal}
+use Rattle.std.specs.Prelude.{Ok, Err}
 use Prim.Native.Nat.{ℕ, ◌+◌, ◌-◌, ◌*◌, ◌/◌, ◌^◌, ◌≤◌}
 use mathlib.Core.Path.{◌≡◌, sym, ap, ◌∙◌, subst}
 use mathlib.Core.Bool.{Bool, true, false, cond}
@@ -6,12 +8,11 @@ use native.Mathlib.Omega.{arith}
 use lib.ListN.{get_or}
 use borrow.Author.Tests.{ltb-false}
 use Rattle.model.specs.Edition.{Edition, edition32}
-use Rattle.model.specs.declared.Answer.{Answer}
-use Rattle.model.specs.declared.Answer.TheVariants.{Success, NotEnoughMemory}
+use Rattle.model.specs.declared.Refusal.TheVariants.{NotEnoughMemory}
 use Rattle.model.specs.declared.Cap.{Cap}
 use Rattle.model.specs.declared.Retyping.{Retyping}
 use Rattle.model.specs.Cap.{is_empty, bytes, exponent}
-use Rattle.model.specs.Check.{passed, refused, refuse, ◌>>=◌}
+use Rattle.model.specs.Check.{refuse, ◌>>=◌}
 use Rattle.model.specs.Tables.{Tables, rows, word, cap_of, read, write}
 use Rattle.model.specs.Tree.{Forest, has_children, cap_at}
 use Rattle.model.specs.Operations.{any_taken, start, allot, allotted, align_up}
@@ -34,9 +35,9 @@ use Rattle.retype.proofs.Whole.{taken_by_lem}
 use Rattle.retype.proofs.Untyped.{Small, small}
 
 -- the memory's test, then the deed
-allot_by : (E : Edition) (k : ℕ) (u : Cap) (from : ℕ) (q : Retyping) (first : ℕ) → allot E k u from q first ≡ (memory_for E u from q >>= λ at. passed (allotted E k u at q first))
+allot_by : (E : Edition) (k : ℕ) (u : Cap) (from : ℕ) (q : Retyping) (first : ℕ) → allot E k u from q first ≡ (memory_for E u from q >>= λ at. Ok (allotted E k u at q first))
 unfolding allot memory_for ◌>>=◌
-allot_by E k u from q first = sym (then_bind (refuse (NotEnoughMemory (bytes E u - from)) _) (passed (align_up from (exponent E q.object q.size))) (λ at. passed (allotted E k u at q first)))
+allot_by E k u from q first = sym (then_bind (refuse (NotEnoughMemory (bytes E u - from)) _) (Ok (align_up from (exponent E q.object q.size))) (λ at. Ok (allotted E k u at q first)))
 
 module _ (t : Tables) (k : ℕ) (q : Retyping) (first : ℕ) (v : Vacant t k q first) where
   forest : Forest
@@ -62,18 +63,18 @@ module _ (t : Tables) (k : ℕ) (q : Retyping) (first : ℕ) (v : Vacant t k q f
   sizes = small t v.formed k v.untyped v.in_table
 
   module _ (u : Cap) (from : ℕ) (is : u ≡ cap_of t.table k) (starts : from ≡ cond (deeper_next t.table k) u.third 0) where
-    allotting_is : allotting k first q forest ≡ (memory_for edition32 u from q >>= λ at. passed (allotted edition32 k u at q first))
+    allotting_is : allotting k first q forest ≡ (memory_for edition32 u from q >>= λ at. Ok (allotted edition32 k u at q first))
     unfolding start
     allotting_is =
         let cap : cap_at forest k ≡ u = ap (λ (c : ℕ → Cap). c k) (sym caps) ∙ sym is in
         let from_is : cond (has_children forest k) u.third 0 ≡ from = ap (λ (b : Bool). cond b u.third 0) children ∙ sym starts in
         rw (cap, from_is) (allot_by edition32 k u from q first)
 
-    pub allot_refused : (a : Answer) → refused a ≡ memory_for edition32 u from q → record { answer = a; tables = t } ≡ carried_out edition32 t (allotting k first q)
+    pub allot_refused : (a : Refusal) → Err a ≡ memory_for edition32 u from q → record { answer = Err a; tables = t } ≡ carried_out edition32 t (allotting k first q)
     unfolding forest ◌>>=◌
     allot_refused a e = comes_refused edition32 t (allotting k first q) a (allotting_is ∙ rw (sym e))
 
-    pub allot_done : (at : ℕ) → passed at ≡ memory_for edition32 u from q → (t' : Tables) → t' ≡ laid_out t k first at q → record { answer = Success q.window; tables = t' } ≡ carried_out edition32 t (allotting k first q)
+    pub allot_done : (at : ℕ) → Ok at ≡ memory_for edition32 u from q → (t' : Tables) → t' ≡ laid_out t k first at q → record { answer = Ok q.window; tables = t' } ≡ carried_out edition32 t (allotting k first q)
     unfolding forest ◌>>=◌ laid_out allotted cap_of
     allot_done at e t' stores =
         let low : first + q.window ≤ rows edition32 (get_or t.control 0 0) = omega (arith, v.rows, sizes.long) in
@@ -91,7 +92,7 @@ module _ (t : Tables) (k : ℕ) (q : Retyping) (first : ℕ) (v : Vacant t k q f
         inside : from ≤ bytes edition32 u
         inside = start_inside (deeper_next t.table k) starts
 
-    pub layable : (at : ℕ) → passed at ≡ memory_for edition32 u from q → Layable t k first at q
+    pub layable : (at : ℕ) → Ok at ≡ memory_for edition32 u from q → Layable t k first at q
     unfolding memory_for cap_of
     layable at e =
         let h = through _ _ _ at (sym e) in

@@ -1,4 +1,6 @@
 -- What is known where Retype's tests have passed.
+use Rattle.model.specs.declared.Refusal.{Refusal}
+use Rattle.std.specs.Prelude.{Ok, Err}
 use Prim.Native.Nat.{ℕ, ◌+◌, ◌-◌, ◌*◌, ◌≤◌}
 use mathlib.Core.Path.{◌≡◌, refl, sym}
 use mathlib.Core.Bool.{Bool, true, false}
@@ -8,12 +10,11 @@ use lib.Dec.{eqb}
 use lib.ListN.{length}
 use borrow.Author.Tests.{leb-false, ltb-false, eqb-false, not-false}
 use Rattle.model.specs.Edition.{edition32, most_rows}
-use Rattle.model.specs.declared.Answer.{Answer}
 use Rattle.model.specs.declared.Cap.{Cap}
 use Rattle.model.specs.declared.Retyping.{Retyping}
 use Rattle.model.specs.declared.Place.{Place}
 use Rattle.model.specs.Cap.{is_cnode, first_row, slots}
-use Rattle.model.specs.Check.{Check, passed, refused, refuse, ◌>>=◌, ◌>>◌}
+use Rattle.model.specs.Check.{Check, refuse, ◌>>=◌, ◌>>◌}
 use Rattle.model.specs.Operations.{slot_of}
 use Rattle.model.specs.Lookup.{lookup}
 use Rattle.model.specs.Tables.{cap_of}
@@ -21,27 +22,27 @@ use Rattle.model.proofs.Booleans.{or_none}
 use Rattle.lookup.specs.Ready.{Ready, Usable}
 use Rattle.retype.specs.Window.{node_by, window_in}
 
-never : {A : Type 0} (a : Answer) (x : A) → refused a ≡ passed x → ⊥
+never : {A : Type 0} (a : Refusal) (x : A) → Err a ≡ Ok x → ⊥
 never a x e = let z : ◌≡◌ {A = ℕ} 0 1 = cc in omega arith
 
-pub same : (j k : ℕ) → passed j ≡ passed k → j ≡ k
+pub same : (j k : ℕ) → Ok j ≡ Ok k → j ≡ k
 same j k e = cc
 
 -- a test that passed, and what came after it
-pub through : {A : Type 0} (a : Answer) (b : Bool) (rest : Check A) (x : A) → (refuse a b >> rest) ≡ passed x → (b ≡ false) × (rest ≡ passed x)
+pub through : {A : Type 0} (a : Refusal) (b : Bool) (rest : Check A) (x : A) → (refuse a b >> rest) ≡ Ok x → (b ≡ false) × (rest ≡ Ok x)
 unfolding refuse ◌>>◌
 through a true rest x e = absurd (never a x e)
 through a false rest x e = (refl, e)
 
-pub bound : {A B : Type 0} (c : Check A) (f : A → Check B) (x : B) → (c >>= f) ≡ passed x → (a : A) × (c ≡ passed a) × (f a ≡ passed x)
+pub bound : {A B : Type 0} (c : Check A) (f : A → Check B) (x : B) → (c >>= f) ≡ Ok x → (a : A) × (c ≡ Ok a) × (f a ≡ Ok x)
 unfolding ◌>>=◌
-bound (passed a) f x e = (a, refl, e)
-bound (refused r) f x e = absurd (never r x e)
+bound (Ok a) f x e = (a, refl, e)
+bound (Err r) f x e = absurd (never r x e)
 
-pub then_passed : {A B : Type 0} (c : Check A) (d : Check B) (x : B) → (c >> d) ≡ passed x → (a : A) × (c ≡ passed a) × (d ≡ passed x)
+pub then_passed : {A B : Type 0} (c : Check A) (d : Check B) (x : B) → (c >> d) ≡ Ok x → (a : A) × (c ≡ Ok a) × (d ≡ Ok x)
 unfolding ◌>>◌
-then_passed (passed a) d x e = (a, refl, e)
-then_passed (refused r) d x e = absurd (never r x e)
+then_passed (Ok a) d x e = (a, refl, e)
+then_passed (Err r) d x e = absurd (never r x e)
 
 -- the window lies in the slots of the node n, from row k on
 pub record Placed (n : Cap) (q : Retyping) (k : ℕ) : Type 0 where
@@ -51,7 +52,7 @@ pub record Placed (n : Cap) (q : Retyping) (k : ℕ) : Type 0 where
   pub most : q.window ≤ 256
   pub fits : q.offset + q.window ≤ slots n
 
-pub window_placed : (n : Cap) (q : Retyping) (k : ℕ) → window_in edition32 n q ≡ passed k → Placed n q k
+pub window_placed : (n : Cap) (q : Retyping) (k : ℕ) → window_in edition32 n q ≡ Ok k → Placed n q k
 unfolding window_in
 window_placed n q k e =
     let a = through _ _ _ k e in
@@ -69,15 +70,15 @@ window_placed n q k e =
     }
 
 -- a CNode that a place names is usable
-pub node_usable : (t : List ℕ) (p : Place) (n : Cap) → Ready t → (is_cnode p.root ≡ true → Usable t p.root) → passed n ≡ node_by edition32 (cap_of t) p → is_cnode n ≡ true → Usable t n
+pub node_usable : (t : List ℕ) (p : Place) (n : Cap) → Ready t → (is_cnode p.root ≡ true → Usable t p.root) → Ok n ≡ node_by edition32 (cap_of t) p → is_cnode n ≡ true → Usable t n
 unfolding node_by ◌>>=◌
 node_usable t p n ready usable e = go (eqb p.depth 0) e
   where
-    named : (s : Check ℕ) → passed n ≡ (s >>= λ k. passed (cap_of t k)) → is_cnode n ≡ true → Usable t n
-    named (passed k) h = let same : n ≡ cap_of t k = cc in rw same (ready.nodes k)
-    named (refused a) h = absurd (never a n (sym h))
+    named : (s : Check ℕ) → Ok n ≡ (s >>= λ k. Ok (cap_of t k)) → is_cnode n ≡ true → Usable t n
+    named (Ok k) h = let same : n ≡ cap_of t k = cc in rw same (ready.nodes k)
+    named (Err a) h = absurd (never a n (sym h))
 
-    go : (b : Bool) → passed n ≡ elim b [ true ↦ passed p.root | false ↦ slot_of edition32 p.source (lookup edition32 (cap_of t) p.root p.index p.depth) >>= λ k. passed (cap_of t k) ] → is_cnode n ≡ true → Usable t n
+    go : (b : Bool) → Ok n ≡ elim b [ true ↦ Ok p.root | false ↦ slot_of edition32 p.source (lookup edition32 (cap_of t) p.root p.index p.depth) >>= λ k. Ok (cap_of t k) ] → is_cnode n ≡ true → Usable t n
     go true h = let same : n ≡ p.root = cc in rw same usable
     go false h = named (slot_of edition32 p.source (lookup edition32 (cap_of t) p.root p.index p.depth)) h
 
@@ -86,7 +87,7 @@ pub node_room : (t : List ℕ) (n : Cap) → Ready t → (is_cnode n ≡ true �
 node_room t n ready usable node = omega (arith, ready.small, (usable node).inside)
 
 -- the window lies in the table
-pub window_inside : (t : List ℕ) (n : Cap) (q : Retyping) (k : ℕ) → (is_cnode n ≡ true → Usable t n) → passed k ≡ window_in edition32 n q → (k + q.window) * 8 ≤ length t
+pub window_inside : (t : List ℕ) (n : Cap) (q : Retyping) (k : ℕ) → (is_cnode n ≡ true → Usable t n) → Ok k ≡ window_in edition32 n q → (k + q.window) * 8 ≤ length t
 window_inside t n q k usable e =
     let w = window_placed n q k (sym e) in
     omega (arith, (usable w.node).inside, w.first, w.fits)

@@ -1,14 +1,15 @@
 -- A request on well-formed tables: what its tests have shown once they passed, and what comes of it.
+use Rattle.model.specs.declared.Refusal.{Refusal}
+use Rattle.std.specs.Prelude.{Ok, Err}
 use Prim.Native.Nat.{ℕ}
 use mathlib.Core.Path.{◌≡◌, sym, ap, ◌∙◌, subst}
 use mathlib.Core.Bool.{true, false}
 use borrow.Author.Tests.{ltb-false}
 use Rattle.model.specs.Edition.{edition32}
-use Rattle.model.specs.declared.Answer.{Answer}
 use Rattle.model.specs.declared.Cap.{Cap}
 use Rattle.model.specs.declared.Retyping.{Retyping}
 use Rattle.model.specs.Cap.{is_cnode}
-use Rattle.model.specs.Check.{passed, refused, ◌>>=◌}
+use Rattle.model.specs.Check.{◌>>=◌}
 use Rattle.model.specs.Tables.{Tables, cap_of, read}
 use Rattle.model.specs.Tree.{Forest, cap_at}
 use Rattle.model.specs.Operations.{start, allot, retype}
@@ -23,7 +24,7 @@ use Rattle.retype.specs.Window.{Known, sized, window_in, taken_by, vacant_in, fi
 use Rattle.retype.proofs.Passed.{through, bound, then_passed, same, window_placed, window_inside, node_usable}
 use Rattle.retype.proofs.Whole.{retype_by}
 
-sized_known : (object size : ℕ) → sized edition32 object size ≡ passed tt → Known object size
+sized_known : (object size : ℕ) → sized edition32 object size ≡ Ok tt → Known object size
 unfolding sized
 sized_known object size e =
     let a = through _ _ _ tt e in
@@ -34,7 +35,7 @@ module _ (t : Tables) (k : ℕ) (q : Retyping) (asked : Retypable t k q) where
   pub tables_ready : Ready t.table
   tables_ready = ready t asked.formed
 
-  pub first_vacant : (first : ℕ) → passed first ≡ first_slot edition32 (cap_of t.table) q → Vacant t k q first
+  pub first_vacant : (first : ℕ) → Ok first ≡ first_slot edition32 (cap_of t.table) q → Vacant t k q first
   unfolding first_slot vacant_in
   first_vacant first e =
       let (_, s, a) = then_passed _ _ first (sym e) in
@@ -42,7 +43,7 @@ module _ (t : Tables) (k : ℕ) (q : Retyping) (asked : Retypable t k q) where
       let (j, window, c) = bound _ _ first b in
       let d = through _ _ _ first c in
       let is : j ≡ first = same _ _ d.1 in
-      let w : window_in edition32 n q ≡ passed first = window ∙ ap passed is in
+      let w : window_in edition32 n q ≡ Ok first = window ∙ ap Ok is in
       let usable : (is_cnode n ≡ true → Usable t.table n) = node_usable t.table q.into n tables_ready asked.usable (sym node) in
       record {
         formed = asked.formed;
@@ -63,10 +64,10 @@ module _ (t : Tables) (k : ℕ) (q : Retyping) (asked : Retypable t k q) where
       retype_by edition32 forest k q
       ∙ ap (λ (c : ℕ → Cap). first_slot edition32 c q >>= allot edition32 k (cap_at forest k) (start forest k (cap_at forest k)) q) (sym (caps_read edition32 roomy32 t asked.formed))
 
-  pub retype_refused : (a : Answer) → refused a ≡ first_slot edition32 (cap_of t.table) q → record { answer = a; tables = t } ≡ carried_out edition32 t (λ f. retype edition32 f k q)
+  pub retype_refused : (a : Refusal) → Err a ≡ first_slot edition32 (cap_of t.table) q → record { answer = Err a; tables = t } ≡ carried_out edition32 t (λ f. retype edition32 f k q)
   unfolding forest ◌>>=◌
   retype_refused a e = comes_refused edition32 t (λ f. retype edition32 f k q) a (by_words ∙ rw (sym e))
 
-  pub retype_allotted : (first : ℕ) → passed first ≡ first_slot edition32 (cap_of t.table) q → (o : Outcome) → o ≡ carried_out edition32 t (allotting k first q) → o ≡ carried_out edition32 t (λ f. retype edition32 f k q)
+  pub retype_allotted : (first : ℕ) → Ok first ≡ first_slot edition32 (cap_of t.table) q → (o : Outcome) → o ≡ carried_out edition32 t (allotting k first q) → o ≡ carried_out edition32 t (λ f. retype edition32 f k q)
   unfolding forest ◌>>=◌
   retype_allotted first e o h = h ∙ comes_same edition32 t (allotting k first q) (λ f. retype edition32 f k q) (sym (by_words ∙ rw (sym e)))

@@ -1,11 +1,12 @@
 -- The test of an Untyped's memory, and what the tests before it have shown.
+use Rattle.std.specs.Prelude.{Ok}
 use Rattle.std.specs.Prelude.{ℕ, ◌+◌, ◌-◌, ◌*◌, ◌/◌, ◌^◌, ◌≤◌, ◌≡◌, true, false, ltb, length}
-use Rattle.model.specs.declared.Answer.TheVariants.{NotEnoughMemory}
+use Rattle.model.specs.declared.Refusal.TheVariants.{NotEnoughMemory}
 use Rattle.model.specs.declared.Cap.{Cap}
 use Rattle.model.specs.declared.Retyping.{Retyping}
 use Rattle.model.specs.Edition.{Edition, edition32}
 use Rattle.model.specs.Cap.{is_cnode, is_untyped, bytes, exponent}
-use Rattle.model.specs.Check.{Check, passed, ◌>>◌, refuse}
+use Rattle.model.specs.Check.{Check, ◌>>◌, refuse}
 use Rattle.model.specs.Rules.{well_formed}
 use Rattle.model.specs.Tables.{Tables, cap_of}
 use Rattle.model.specs.Tree.{Forest, cap_at}
@@ -17,7 +18,7 @@ use Rattle.retype.specs.Window.{Known, taken_by}
 unfoldable pub memory_for : Edition → (u : Cap) → (from : ℕ) → Retyping → Check ℕ
 memory_for E u from q = do
   refuse (NotEnoughMemory (bytes E u - from)) (ltb ((bytes E u - from) / 2 ^ exponent E q.object q.size) q.window)
-  passed (align_up from (exponent E q.object q.size))
+  Ok (align_up from (exponent E q.object q.size))
 
 -- an Untyped of at most half the largest memory, a byte of it, and a request for one object or more
 pub record Bounded (u : Cap) (from : ℕ) (q : Retyping) : Type 0 where

@@ -1,7 +1,8 @@
 -- What the tests of Retype come to, as the definitions have it.
+use Rattle.std.specs.Prelude.{Ok, Err}
 use Rattle.std.specs.Prelude.{ℕ}
 use Rattle.model.specs.declared.Cap.{Cap}
-use Rattle.model.specs.Check.{Check, passed, refused}
+use Rattle.model.specs.Check.{Check}
 use Rattle.retype.specs.declared.object.Judged.{Judged}
 use Rattle.retype.specs.declared.object.Judged.TheVariants as judged
 use Rattle.retype.specs.declared.memory.Memory.{Memory}
@@ -11,15 +12,15 @@ use Rattle.retype.specs.declared.place.Taker.TheVariants as taker
 
 -- the type and the size passed, or were barred
 abbrev pub of_judged : Judged → Check (Unit {0})
-of_judged judged.Passed = passed tt
-of_judged (judged.Barred a) = refused a
+of_judged judged.Passed = Ok tt
+of_judged (judged.Barred a) = Err a
 
 -- what is to take the new capabilities
 abbrev pub of_taker : Taker → Check Cap
-of_taker (taker.Is c) = passed c
-of_taker (taker.Refused a) = refused a
+of_taker (taker.Is c) = Ok c
+of_taker (taker.Refused a) = Err a
 
 -- the byte at which the objects begin
 abbrev pub of_memory : Memory → Check ℕ
-of_memory (memory.From at) = passed at
-of_memory (memory.Refused a) = refused a
+of_memory (memory.From at) = Ok at
+of_memory (memory.Refused a) = Err a

@@ -1,13 +1,14 @@
 -- Retype's tests up to the first slot of its window, where `caps` gives the capability in each row.
+use Rattle.std.specs.Prelude.{Ok}
 use Rattle.std.specs.Prelude.{ℕ, zero, suc, ◌+◌, ◌-◌, ◌≤◌, Bool, true, false, not, ◌||◌, leb, ltb, eqb}
-use Rattle.model.specs.declared.Answer.TheVariants.{InvalidArgument, RangeError, FailedLookup, DeleteFirst}
+use Rattle.model.specs.declared.Refusal.TheVariants.{InvalidArgument, RangeError, FailedLookup, DeleteFirst}
 use Rattle.model.specs.declared.Cap.{Cap}
 use Rattle.model.specs.declared.Failure.TheVariants.{Missing}
 use Rattle.model.specs.declared.Place.{Place}
 use Rattle.model.specs.declared.Retyping.{Retyping}
 use Rattle.model.specs.Edition.{Edition}
 use Rattle.model.specs.Cap.{is_empty, is_cnode, first_row, slots}
-use Rattle.model.specs.Check.{Check, passed, ◌>>=◌, ◌>>◌, refuse}
+use Rattle.model.specs.Check.{Check, ◌>>=◌, ◌>>◌, refuse}
 use Rattle.model.specs.Lookup.{lookup}
 use Rattle.model.specs.Operations.{slot_of, size_barred}
 
@@ -27,10 +28,10 @@ sized E object size = do
 unfoldable pub node_by : Edition → (caps : ℕ → Cap) → Place → Check Cap
 node_by E caps p =
     elim (eqb p.depth 0) [
-      | true ↦ passed p.root
+      | true ↦ Ok p.root
       | false ↦ do
         k ← slot_of E p.source (lookup E caps p.root p.index p.depth)
-        passed (caps k)
+        Ok (caps k)
     ]
 
 -- the first slot of the window in the node n
@@ -40,7 +41,7 @@ window_in E n q = do
   refuse (RangeError 0 (slots n - 1)) (leb (slots n) q.offset)
   refuse (RangeError 1 256) (eqb q.window 0 || ltb 256 q.window)
   refuse (RangeError 1 (slots n - q.offset)) (ltb (slots n - q.offset) q.window)
-  passed (first_row E n + q.offset)
+  Ok (first_row E n + q.offset)
 
 -- of the n rows from k, one is occupied
 unfoldable pub taken_by : (caps : ℕ → Cap) → (k n : ℕ) → Bool
@@ -52,7 +53,7 @@ unfoldable pub vacant_in : Edition → (caps : ℕ → Cap) → (n : Cap) → Re
 vacant_in E caps n q = do
   k ← window_in E n q
   refuse DeleteFirst (taken_by caps k q.window)
-  passed k
+  Ok k
 
 -- all tests but that of the memory
 unfoldable pub first_slot : Edition → (caps : ℕ → Cap) → Retyping → Check ℕ

@@ -1,13 +1,14 @@
 -- What comes of a request on well-formed tables, by what is done on the state that they stand for.
 -- Assumes nothing.
+use Rattle.model.specs.Check.{Answer}
+use Rattle.std.specs.Prelude.{Ok}
 use Prim.Native.Nat.{ℕ}
 use mathlib.Core.Path.{ap, ◌∙◌, ◌≡◌}
 use mathlib.Core.Bool.{true}
 use mathlib.Core.List.{List}
-use Rattle.model.specs.declared.Answer.{Answer}
 use Rattle.model.specs.Edition.{Edition}
 use Rattle.model.specs.Tree.{Forest, edit}
-use Rattle.model.specs.Check.{Check, passed, ◌>>=◌}
+use Rattle.model.specs.Check.{Check, ◌>>=◌}
 use Rattle.model.specs.Tables.{State, Tables, read, write}
 use Rattle.model.specs.Rules.{well_formed}
 use Rattle.model.specs.Operations.{Done}
@@ -23,18 +24,18 @@ module _ (E : Edition) (t : Tables) (wf : well_formed E t ≡ true) where
 
   -- the answer that a check comes to
   abbrev pub answered : Check Done → Answer
-  answered c = (concluded E t (c >>= λ d. passed (applied (read E t) d))).answer
+  answered c = (concluded E t (c >>= λ d. Ok (applied (read E t) d))).answer
 
   pub answer_is : (caller : ℕ) (message : List ℕ) → (request E t caller message).answer ≡ answered (served E f caller message)
   unfolding request carried_out
   answer_is caller message = rw wf
 
-  tables_are : (caller : ℕ) (message : List ℕ) (d : Done) → served E f caller message ≡ passed d → (request E t caller message).tables ≡ write E (applied (read E t) d).state
+  tables_are : (caller : ℕ) (message : List ℕ) (d : Done) → served E f caller message ≡ Ok d → (request E t caller message).tables ≡ write E (applied (read E t) d).state
   unfolding request carried_out concluded ◌>>=◌
   tables_are caller message d e = rw (wf, e)
 
   -- the state after what was done
-  pub read_after : Roomy E → Sane E → (caller : ℕ) (message : List ℕ) (d : Done) → served E f caller message ≡ passed d → (read E (request E t caller message).tables).forest ≡ edit d.deed f
+  pub read_after : Roomy E → Sane E → (caller : ℕ) (message : List ℕ) (d : Done) → served E f caller message ≡ Ok d → (read E (request E t caller message).tables).forest ≡ edit d.deed f
   unfolding applied
   read_after law sane caller message d e =
       ap (λ (u : Tables). (read E u).forest) (tables_are caller message d e)

@@ -1,5 +1,7 @@
 -- A Revoke that succeeds removes what the definition removes, so none of its target's descendants is left.
 -- Assumes nothing.
+use Rattle.model.specs.declared.Refusal.{Refusal}
+use Rattle.std.specs.Prelude.{Ok, Err}
 use Prim.Native.Nat.{ℕ}
 use mathlib.Core.Path.{ap, refl, subst, sym, ◌∙◌, ◌≡◌}
 use mathlib.Core.Bool.{Bool, false, not, true, true≢false}
@@ -8,15 +10,14 @@ use native.Mathlib.Omega.{arith}
 use lib.Dec.{ltb}
 use lib.ListN.{get_or, length}
 use borrow.Author.Tests.{not-true}
-use Rattle.model.specs.declared.Answer.{Answer}
-use Rattle.model.specs.declared.Answer.TheVariants.{IllegalOperation, InvalidCapability, Success, TruncatedMessage}
+use Rattle.model.specs.declared.Refusal.TheVariants.{IllegalOperation, InvalidCapability, TruncatedMessage}
 use Rattle.model.specs.declared.Cap.{Cap}
 use Rattle.model.specs.declared.Operation.{Operation}
 use Rattle.model.specs.Lists.{member}
 use Rattle.model.specs.Edition.{Edition, edition32}
 use Rattle.model.specs.Cap.{is_empty}
 use Rattle.model.specs.Tree.{Forest, cap_at, edit, entries, without}
-use Rattle.model.specs.Check.{Check, passed, refuse, refused, ◌>>=◌, ◌>>◌}
+use Rattle.model.specs.Check.{Check, refuse, ◌>>=◌, ◌>>◌}
 use Rattle.model.specs.Tables.{Tables, read}
 use Rattle.model.specs.Rules.{well_formed}
 use Rattle.model.specs.Removal.{removed}
@@ -38,22 +39,22 @@ use Rattle.tenants.proofs.Carried.{answer_is, answered, read_after}
 
 -- ---- checks that pass
 
-refused_passed : {A : Type 0} (a : Answer) (x : A) → refused a ≡ passed x → ⊥
+refused_passed : {A : Type 0} (a : Refusal) (x : A) → Err a ≡ Ok x → ⊥
 refused_passed a x e = let z : ◌≡◌ {A = ℕ} 0 1 = cc in omega arith
 
-bound : {A B : Type 0} (c : Check A) (f : A → Check B) (x : B) → (c >>= f) ≡ passed x → (a : A) × (c ≡ passed a) × (f a ≡ passed x)
+bound : {A B : Type 0} (c : Check A) (f : A → Check B) (x : B) → (c >>= f) ≡ Ok x → (a : A) × (c ≡ Ok a) × (f a ≡ Ok x)
 unfolding ◌>>=◌
-bound (passed a) f x e = (a, refl, e)
-bound (refused r) f x e = absurd (refused_passed r x e)
+bound (Ok a) f x e = (a, refl, e)
+bound (Err r) f x e = absurd (refused_passed r x e)
 
 -- no refusal of the common order is a success
-truncated : (n : ℕ) → TruncatedMessage ≡ Success n → ⊥
+truncated : (n : ℕ) → TruncatedMessage ≡ Ok n → ⊥
 truncated n e = let z : ◌≡◌ {A = ℕ} 0 1 = cc in omega arith
 
-invalid : (n : ℕ) → InvalidCapability ≡ Success n → ⊥
+invalid : (n : ℕ) → InvalidCapability ≡ Ok n → ⊥
 invalid n e = let z : ◌≡◌ {A = ℕ} 0 1 = cc in omega arith
 
-illegal : (n : ℕ) → IllegalOperation ≡ Success n → ⊥
+illegal : (n : ℕ) → IllegalOperation ≡ Ok n → ⊥
 illegal n e = let z : ◌≡◌ {A = ℕ} 0 1 = cc in omega arith
 
 -- ---- a Revoke that succeeds
@@ -64,7 +65,7 @@ module _ (E : Edition) (t : Tables) (wf : well_formed E t ≡ true) where
 
   -- the common order where it does not refuse
   tests_pass : (n : ℕ) (short empty other brief : Bool) (rest : Check Done)
-      → answered E t wf (refuse TruncatedMessage short >> (refuse InvalidCapability empty >> (refuse IllegalOperation other >> (refuse TruncatedMessage brief >> rest)))) ≡ Success n
+      → answered E t wf (refuse TruncatedMessage short >> (refuse InvalidCapability empty >> (refuse IllegalOperation other >> (refuse TruncatedMessage brief >> rest)))) ≡ Ok n
       → (refuse TruncatedMessage short >> (refuse InvalidCapability empty >> (refuse IllegalOperation other >> (refuse TruncatedMessage brief >> rest)))) ≡ rest
   unfolding refuse ◌>>◌ concluded ◌>>=◌
   tests_pass n true empty other brief rest h = absurd (truncated n h)
@@ -77,8 +78,8 @@ module _ (E : Edition) (t : Tables) (wf : well_formed E t ≡ true) where
     -- the row of the service, and the target found from it
     pub record Found : Type 0 where
       pub service : ℕ
-      pub named : row_named E f caller message 1 ≡ passed service
-      pub found : find E f (place (cap_at f service) message 2 false) ≡ passed k
+      pub named : row_named E f caller message 1 ≡ Ok service
+      pub found : find E f (place (cap_at f service) message 2 false) ≡ Ok k
 
     pub found_from : Found
     unfolding target_of
@@ -100,21 +101,21 @@ module _ (E : Edition) (t : Tables) (wf : well_formed E t ≡ true) where
     unfolding served
     tested = ap (λ (c : Check Done). refuse TruncatedMessage (ltb (length message) 2) >> c) (bind_on _ found_from.named)
 
-    performed : perform E f caller message at operation ≡ passed (remove E f (descendants f k))
+    performed : perform E f caller message at operation ≡ Ok (remove E f (descendants f k))
     unfolding perform operation_of revoke
-    performed = ap (λ n. perform E f caller message at (operation_of n)) r.operation ∙ bind_on (λ j. passed (remove E f (descendants f j))) found_from.found
+    performed = ap (λ n. perform E f caller message at (operation_of n)) r.operation ∙ bind_on (λ j. Ok (remove E f (descendants f j))) found_from.found
 
-    pub revokes : served E f caller message ≡ passed (remove E f (descendants f k))
+    pub revokes : served E f caller message ≡ Ok (remove E f (descendants f k))
     revokes =
         tested
         ∙ tests_pass r.count (ltb (length message) 2) (is_empty (cap_at f at)) (not (invokes (cap_at f at) operation)) (ltb (length message) (words_of operation)) (perform E f caller message at operation)
-        (subst (λ (c : Check Done). answered E t wf c ≡ Success r.count) tested (sym (answer_is E t wf caller message) ∙ r.answer))
+        (subst (λ (c : Check Done). answered E t wf c ≡ Ok r.count) tested (sym (answer_is E t wf caller message) ∙ r.answer))
         ∙ performed
 
     -- what a Revoke's place asks of the definition
-    pub revoked : revoke E f (place (cap_at f at) message 2 false) ≡ passed (remove E f (descendants f k))
+    pub revoked : revoke E f (place (cap_at f at) message 2 false) ≡ Ok (remove E f (descendants f k))
     unfolding revoke
-    revoked = bind_on (λ j. passed (remove E f (descendants f j))) found_from.found
+    revoked = bind_on (λ j. Ok (remove E f (descendants f j))) found_from.found
 
 -- ---- none of the descendants is left
 

@@ -1,12 +1,12 @@
 -- What holds of memory throughout a run of requests, said of the table's words.
+use Rattle.std.specs.Prelude.{Ok, Err}
 use Rattle.std.specs.Prelude.{ℕ, ◌+◌, ◌<◌, ◌≤◌, ◌≡◌, Bool, false, not, true, ◌&&◌, List, get_or, length}
-use Rattle.model.specs.declared.Answer.TheVariants.{Success}
 use Rattle.model.specs.declared.Cap.{Cap}
 use Rattle.model.specs.Lists.{member}
 use Rattle.model.specs.Edition.{Edition}
 use Rattle.model.specs.Cap.{apart, first_row, is_cnode, is_empty, is_untyped, slots}
 use Rattle.model.specs.Tree.{cap_at}
-use Rattle.model.specs.Check.{Check, passed, ◌>>=◌}
+use Rattle.model.specs.Check.{Check, ◌>>=◌}
 use Rattle.model.specs.Tables.{Tables, cap_of, read}
 use Rattle.model.specs.Rules.{well_formed}
 use Rattle.model.specs.Operations.{descendants, find, node}
@@ -41,9 +41,9 @@ target_of E t caller message = do
 -- a request is a Revoke of row k, and succeeds
 pub record Revokes (E : Edition) (t : Tables) (caller : ℕ) (message : List ℕ) (k : ℕ) : Type 0 where
   pub operation : get_or message 0 0 ≡ 6
-  pub target : target_of E t caller message ≡ passed k
+  pub target : target_of E t caller message ≡ Ok k
   pub count : ℕ
-  pub answer : (request E t caller message).answer ≡ Success count
+  pub answer : (request E t caller message).answer ≡ Ok count
 
 -- A successful Revoke leaves none of the descendants that its target had.
 abbrev pub RevokeClears : Edition → Type 0
@@ -57,13 +57,13 @@ RevokeClears E =
 pub record RetypesWhole (E : Edition) (t : Tables) (caller : ℕ) (message : List ℕ) (k size : ℕ) : Type 0 where
   pub long : 9 ≤ length message
   pub operation : get_or message 0 0 ≡ 8
-  pub service : row_named E (read E t).forest caller message 1 ≡ passed k
+  pub service : row_named E (read E t).forest caller message 1 ≡ Ok k
   pub object : get_or message 2 0 ≡ 0
   pub asked : get_or message 3 0 ≡ size
   pub root : ℕ
-  pub rooted : row_named E (read E t).forest caller message 4 ≡ passed root
+  pub rooted : row_named E (read E t).forest caller message 4 ≡ Ok root
   pub into : Cap
-  pub found : node E (read E t).forest (place (cap_at (read E t).forest root) message 5 false) ≡ passed into
+  pub found : node E (read E t).forest (place (cap_at (read E t).forest root) message 5 false) ≡ Ok into
   pub cnode : is_cnode into ≡ true
   pub among : get_or message 7 0 < slots into
   pub vacant : is_empty (cap_of t.table (first_row E into + get_or message 7 0)) ≡ true
@@ -75,4 +75,4 @@ FreedIsUsedAgain E =
     (t : Tables) → well_formed E t ≡ true → (caller : ℕ) (message : List ℕ) (k : ℕ) → Revokes E t caller message k
     → is_untyped (cap_of t.table k) ≡ true → is_empty (cap_of (request E t caller message).tables.table k) ≡ false
     → (caller' : ℕ) (message' : List ℕ) → RetypesWhole E (request E t caller message).tables caller' message' k (cap_of t.table k).size
-    → (request E (request E t caller message).tables caller' message').answer ≡ Success 1
+    → (request E (request E t caller message).tables caller' message').answer ≡ Ok 1

@@ -1,4 +1,5 @@
 -- Copy along a way: the test of the next row is that of children, and the words that the code stores are those of the tables after it.
+use Rattle.std.specs.Prelude.{Ok, Err}
 use Prim.Native.Nat.{ℕ, ◌+◌}
 use mathlib.Core.Path.{◌≡◌, refl, sym, ap, ◌∙◌}
 use mathlib.Core.Bool.{Bool, true, false, ◌&&◌}
@@ -6,11 +7,11 @@ use mathlib.Core.List.{List}
 use native.Mathlib.Nat.{add_comm}
 use lib.ListN.{get_or, set}
 use borrow.Author.Tests.{eq-eqb, ne_eqb}
-use Rattle.model.specs.declared.Answer.TheVariants.{Success, RevokeFirst}
+use Rattle.model.specs.declared.Refusal.TheVariants.{RevokeFirst}
 use Rattle.model.specs.declared.Cap.{Cap}
 use Rattle.model.specs.Edition.{edition32}
 use Rattle.model.specs.Cap.{is_empty, is_untyped}
-use Rattle.model.specs.Check.{passed, ◌>>◌, refuse}
+use Rattle.model.specs.Check.{◌>>◌, refuse}
 use Rattle.model.specs.Tree.{has_children}
 use Rattle.model.specs.Stores.{linked, recapped}
 use Rattle.model.specs.Tables.{Tables, cap_of, lent, read, word}
@@ -61,10 +62,10 @@ module _ (t : Tables) (w : Way) (along : Along t w) where
       (rw (eq-eqb w.cap.kind 1 untyped, ← children t along.formed w.from.0 along.way.held, deeper))
 
   pub copy_done : (u : Tables) → (is_untyped w.cap && deeper_next t.table w.from.0) ≡ false → u ≡ after edition32 t (copied edition32 w)
-      → record { answer = Success 1; tables = u } ≡ carried_out edition32 t (λ f. copy_along edition32 f w)
+      → record { answer = Ok 1; tables = u } ≡ carried_out edition32 t (λ f. copy_along edition32 f w)
   unfolding copy_along copied refuse ◌>>◌
   copy_done u none done =
       comes_done edition32 t (λ f. copy_along edition32 f w) (copied edition32 w) u
-      (ap (λ (b : Bool). refuse RevokeFirst b >> passed (copied edition32 w))
+      (ap (λ (b : Bool). refuse RevokeFirst b >> Ok (copied edition32 w))
       (ap (λ (b : Bool). is_untyped w.cap && b) (sym (children t along.formed w.from.0 along.way.held)) ∙ none))
       done

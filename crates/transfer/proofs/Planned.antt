@@ -1,14 +1,14 @@
 -- Copy and Move are the tests that they share and what is done along the way that these give.
+use Rattle.model.specs.declared.Refusal.{Refusal}
+use Rattle.std.specs.Prelude.{Ok, Err}
 use Prim.Native.Nat.{ℕ}
 use mathlib.Core.Path.{◌≡◌, sym, ap, ◌∙◌}
 use mathlib.Core.Bool.{true}
-use Rattle.model.specs.declared.Answer.{Answer}
-use Rattle.model.specs.declared.Answer.TheVariants.{Success}
 use Rattle.model.specs.declared.Cap.{Cap}
 use Rattle.model.specs.declared.Change.{Change}
 use Rattle.model.specs.declared.Place.{Place}
 use Rattle.model.specs.Edition.{Edition, edition32}
-use Rattle.model.specs.Check.{Check, passed, refused, ◌>>=◌, ◌>>◌}
+use Rattle.model.specs.Check.{Check, ◌>>=◌, ◌>>◌}
 use Rattle.model.specs.Tree.{Forest, cap_at}
 use Rattle.model.specs.Tables.{Tables, cap_of, read}
 use Rattle.model.specs.Rules.{well_formed}
@@ -27,7 +27,7 @@ copy_is : (E : Edition) (f : Forest) (dest source : Place) (how : Change) → co
 unfolding copy way free_slot held_slot copy_along copied find vacant present ◌>>=◌ ◌>>◌
 copy_is E f dest source how = simp (bind_bind, then_bind)
 
-move_is : (E : Edition) (f : Forest) (dest source : Place) (how : Change) → move E f dest source how ≡ (way E (cap_at f) dest source how >>= λ w. passed (relocated w))
+move_is : (E : Edition) (f : Forest) (dest source : Place) (how : Change) → move E f dest source how ≡ (way E (cap_at f) dest source how >>= λ w. Ok (relocated w))
 unfolding move way free_slot held_slot relocated find vacant present ◌>>=◌ ◌>>◌
 move_is E f dest source how = simp (bind_bind, then_bind)
 
@@ -39,18 +39,18 @@ module _ (t : Tables) (e : well_formed edition32 t ≡ true) (dest source : Plac
     in_words : operation (read edition32 t).forest ≡ (way edition32 (cap_of t.table) dest source how >>= on (read edition32 t).forest)
     in_words = is (read edition32 t).forest ∙ ap (λ (caps : ℕ → Cap). way edition32 caps dest source how >>= on (read edition32 t).forest) (sym (caps_read edition32 roomy32 t e))
 
-    stops : (a : Answer) → refused a ≡ way edition32 (cap_of t.table) dest source how → record { answer = a; tables = t } ≡ carried_out edition32 t operation
+    stops : (a : Refusal) → Err a ≡ way edition32 (cap_of t.table) dest source how → record { answer = Err a; tables = t } ≡ carried_out edition32 t operation
     unfolding ◌>>=◌
     stops a refusal = comes_refused edition32 t operation a (in_words ∙ ap (λ (c : Check Way). c >>= on (read edition32 t).forest) (sym refusal))
 
-    goes : (w : Way) → passed w ≡ way edition32 (cap_of t.table) dest source how → operation (read edition32 t).forest ≡ on (read edition32 t).forest w
+    goes : (w : Way) → Ok w ≡ way edition32 (cap_of t.table) dest source how → operation (read edition32 t).forest ≡ on (read edition32 t).forest w
     unfolding ◌>>=◌
     goes w found = in_words ∙ ap (λ (c : Check Way). c >>= on (read edition32 t).forest) (sym found)
 
-  pub copy_stops : (a : Answer) → refused a ≡ way edition32 (cap_of t.table) dest source how → record { answer = a; tables = t } ≡ carried_out edition32 t (λ f. copy edition32 f dest source how)
+  pub copy_stops : (a : Refusal) → Err a ≡ way edition32 (cap_of t.table) dest source how → record { answer = Err a; tables = t } ≡ carried_out edition32 t (λ f. copy edition32 f dest source how)
   copy_stops a refusal = stops (λ f. copy edition32 f dest source how) (copy_along edition32) (λ f. copy_is edition32 f dest source how) a refusal
 
-  pub copy_goes : (w : Way) → passed w ≡ way edition32 (cap_of t.table) dest source how → (o : Outcome) → o ≡ carried_out edition32 t (λ f. copy_along edition32 f w)
+  pub copy_goes : (w : Way) → Ok w ≡ way edition32 (cap_of t.table) dest source how → (o : Outcome) → o ≡ carried_out edition32 t (λ f. copy_along edition32 f w)
       → o ≡ carried_out edition32 t (λ f. copy edition32 f dest source how)
   copy_goes w found o done =
       done
@@ -58,13 +58,13 @@ module _ (t : Tables) (e : well_formed edition32 t ≡ true) (dest source : Plac
       (comes_same edition32 t (λ f. copy edition32 f dest source how) (λ f. copy_along edition32 f w)
       (goes (λ f. copy edition32 f dest source how) (copy_along edition32) (λ f. copy_is edition32 f dest source how) w found))
 
-  pub move_stops : (a : Answer) → refused a ≡ way edition32 (cap_of t.table) dest source how → record { answer = a; tables = t } ≡ carried_out edition32 t (λ f. move edition32 f dest source how)
-  move_stops a refusal = stops (λ f. move edition32 f dest source how) (λ f w. passed (relocated w)) (λ f. move_is edition32 f dest source how) a refusal
+  pub move_stops : (a : Refusal) → Err a ≡ way edition32 (cap_of t.table) dest source how → record { answer = Err a; tables = t } ≡ carried_out edition32 t (λ f. move edition32 f dest source how)
+  move_stops a refusal = stops (λ f. move edition32 f dest source how) (λ f w. Ok (relocated w)) (λ f. move_is edition32 f dest source how) a refusal
 
-  pub move_goes : (w : Way) → passed w ≡ way edition32 (cap_of t.table) dest source how → Open t.table w → (u : Tables) → u ≡ moved_tables edition32 t w.from.0 w.to.0 w.cap
-      → record { answer = Success 0; tables = u } ≡ carried_out edition32 t (λ f. move edition32 f dest source how)
+  pub move_goes : (w : Way) → Ok w ≡ way edition32 (cap_of t.table) dest source how → Open t.table w → (u : Tables) → u ≡ moved_tables edition32 t w.from.0 w.to.0 w.cap
+      → record { answer = Ok 0; tables = u } ≡ carried_out edition32 t (λ f. move edition32 f dest source how)
   unfolding relocated
   move_goes w found open-way u done =
       comes_done edition32 t (λ f. move edition32 f dest source how) (relocated w) u
-      (goes (λ f. move edition32 f dest source how) (λ f v. passed (relocated v)) (λ f. move_is edition32 f dest source how) w found)
+      (goes (λ f. move edition32 f dest source how) (λ f v. Ok (relocated v)) (λ f. move_is edition32 f dest source how) w found)
       (done ∙ sym (write_relocated edition32 roomy32 t e w.from.0 w.to.0 w.cap open-way.held open-way.free (row_below t e w.to.0 open-way.to_in)))

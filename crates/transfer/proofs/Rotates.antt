@@ -1,13 +1,13 @@
 -- Rotate is its tests and what turns after them; the words that the code stores are those of the tables after it.
+use Rattle.model.specs.declared.Refusal.{Refusal}
+use Rattle.std.specs.Prelude.{Ok, Err}
 use Prim.Native.Nat.{ℕ}
 use mathlib.Core.Path.{◌≡◌, sym, ap, ◌∙◌, subst}
 use mathlib.Core.Bool.{true}
-use Rattle.model.specs.declared.Answer.{Answer}
-use Rattle.model.specs.declared.Answer.TheVariants.{Success}
 use Rattle.model.specs.declared.Cap.{Cap}
 use Rattle.model.specs.declared.Place.{Place}
 use Rattle.model.specs.Edition.{Edition, edition32}
-use Rattle.model.specs.Check.{Check, passed, refused, ◌>>=◌, ◌>>◌}
+use Rattle.model.specs.Check.{Check, ◌>>=◌, ◌>>◌}
 use Rattle.model.specs.Tree.{Forest, cap_at}
 use Rattle.model.specs.Tables.{Tables, cap_of, read}
 use Rattle.model.specs.Rules.{well_formed}
@@ -50,7 +50,7 @@ module _ (t : Tables) (w : Turn) (turns : Turns t w) where
 -- ---- what comes of it
 
 rotate_is : (E : Edition) (f : Forest) (dest pivot source : Place) (datum pivot_datum : ℕ)
-    → rotate E f dest pivot source datum pivot_datum ≡ (three_rows E (cap_at f) dest pivot source >>= λ rs. turn E (cap_at f) rs pivot source datum pivot_datum >>= λ w. passed (turned w))
+    → rotate E f dest pivot source datum pivot_datum ≡ (three_rows E (cap_at f) dest pivot source >>= λ rs. turn E (cap_at f) rs pivot source datum pivot_datum >>= λ w. Ok (turned w))
 unfolding rotate three_rows turn turn_caps turned find present ◌>>=◌ ◌>>◌
 rotate_is E f dest pivot source datum pivot_datum = simp (bind_bind, then_bind)
 
@@ -59,30 +59,30 @@ module _ (t : Tables) (e : well_formed edition32 t ≡ true) (dest pivot source 
   operation f = rotate edition32 f dest pivot source datum pivot_datum
 
   abbrev rest : Rows → Check Done
-  rest rs = turn edition32 (cap_of t.table) rs pivot source datum pivot_datum >>= λ w. passed (turned w)
+  rest rs = turn edition32 (cap_of t.table) rs pivot source datum pivot_datum >>= λ w. Ok (turned w)
 
   in_words : operation (read edition32 t).forest ≡ (three_rows edition32 (cap_of t.table) dest pivot source >>= rest)
   in_words =
       rotate_is edition32 (read edition32 t).forest dest pivot source datum pivot_datum
-      ∙ ap (λ (caps : ℕ → Cap). three_rows edition32 caps dest pivot source >>= λ rs. turn edition32 caps rs pivot source datum pivot_datum >>= λ w. passed (turned w)) (sym (caps_read edition32 roomy32 t e))
+      ∙ ap (λ (caps : ℕ → Cap). three_rows edition32 caps dest pivot source >>= λ rs. turn edition32 caps rs pivot source datum pivot_datum >>= λ w. Ok (turned w)) (sym (caps_read edition32 roomy32 t e))
 
-  pub rotate_lost : (a : Answer) → refused a ≡ three_rows edition32 (cap_of t.table) dest pivot source → record { answer = a; tables = t } ≡ carried_out edition32 t operation
+  pub rotate_lost : (a : Refusal) → Err a ≡ three_rows edition32 (cap_of t.table) dest pivot source → record { answer = Err a; tables = t } ≡ carried_out edition32 t operation
   unfolding ◌>>=◌
   rotate_lost a none = comes_refused edition32 t operation a (in_words ∙ ap (λ (c : Check Rows). c >>= rest) (sym none))
 
-  module _ (rs : Rows) (located : passed rs ≡ three_rows edition32 (cap_of t.table) dest pivot source) where
+  module _ (rs : Rows) (located : Ok rs ≡ three_rows edition32 (cap_of t.table) dest pivot source) where
     onward : operation (read edition32 t).forest ≡ rest rs
     unfolding ◌>>=◌
     onward = in_words ∙ ap (λ (c : Check Rows). c >>= rest) (sym located)
 
-    pub rotate_stops : (a : Answer) → refused a ≡ turn edition32 (cap_of t.table) rs pivot source datum pivot_datum → record { answer = a; tables = t } ≡ carried_out edition32 t operation
+    pub rotate_stops : (a : Refusal) → Err a ≡ turn edition32 (cap_of t.table) rs pivot source datum pivot_datum → record { answer = Err a; tables = t } ≡ carried_out edition32 t operation
     unfolding ◌>>=◌
-    rotate_stops a none = comes_refused edition32 t operation a (onward ∙ ap (λ (c : Check Turn). c >>= λ w. passed (turned w)) (sym none))
+    rotate_stops a none = comes_refused edition32 t operation a (onward ∙ ap (λ (c : Check Turn). c >>= λ w. Ok (turned w)) (sym none))
 
-    pub rotate_goes : (w : Turn) → passed w ≡ turn edition32 (cap_of t.table) rs pivot source datum pivot_datum → (u : Tables) → u ≡ after edition32 t (turned w)
-        → record { answer = Success 0; tables = u } ≡ carried_out edition32 t operation
+    pub rotate_goes : (w : Turn) → Ok w ≡ turn edition32 (cap_of t.table) rs pivot source datum pivot_datum → (u : Tables) → u ≡ after edition32 t (turned w)
+        → record { answer = Ok 0; tables = u } ≡ carried_out edition32 t operation
     unfolding ◌>>=◌ turned
-    rotate_goes w found u done = comes_done edition32 t operation (turned w) u (onward ∙ ap (λ (c : Check Turn). c >>= λ x. passed (turned x)) (sym found)) done
+    rotate_goes w found u done = comes_done edition32 t operation (turned w) u (onward ∙ ap (λ (c : Check Turn). c >>= λ x. Ok (turned x)) (sym found)) done
 
 -- what the tests showed of a turn
 pub can_turn : (t : Tables) → well_formed edition32 t ≡ true → (rs : Rows) (w : Turn) → InRows t.table rs → (w.rows ≡ rs) × Turnable t.table rs → Turns t w

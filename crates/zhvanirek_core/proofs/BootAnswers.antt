@@ -1,10 +1,11 @@
 -- Boot's ways out: m out of range, r out of range, a table of another length, and the tables of a fresh host.
 -- Assumes nothing.
+use Rattle.std.specs.Prelude.{Ok, Err}
 use Rattle.std.specs.Prelude.{◌≡◌, ℕ, ◌-◌, ◌*◌, true, false, eqb, List, [], ◌∷◌, length, set}
 use mathlib.Core.Path.{refl, sym, ap, ◌∙◌}
 use native.Mathlib.Omega.{arith}
 use borrow.Author.Tests.{eqb-true}
-use Rattle.model.specs.declared.Answer.TheVariants.{Success, RangeError, BadTables}
+use Rattle.model.specs.declared.Refusal.TheVariants.{RangeError, BadTables}
 use Rattle.model.specs.Edition.{edition32}
 use Rattle.model.specs.Check.{refuse, ◌>>◌}
 use Rattle.model.specs.Tables.{Tables, rows, write}
@@ -47,11 +48,11 @@ module _ (t : Tables) (m r : ℕ) where
       other_length other = rw (ranged, rangedR, other)
 
       pub fresh_host : lengths_fit edition32 m t ≡ true
-          → record { answer = Success 0; tables = record { table = boot_table m r; control = m ∷ r ∷ 0 ∷ (m - r - 3) ∷ [] } } ≡ boot edition32 t m r
+          → record { answer = Ok 0; tables = record { table = boot_table m r; control = m ∷ r ∷ 0 ∷ (m - r - 3) ∷ [] } } ≡ boot edition32 t m r
       unfolding boot refuse ◌>>◌ concluded boot_table
       fresh_host fit =
           rw (ranged, rangedR, fit)
-          (ap (λ (ws : List ℕ). record { answer = Success 0; tables = record { table = (write edition32 (booted edition32 m r)).table; control = ws } }) control)
+          (ap (λ (ws : List ℕ). record { answer = Ok 0; tables = record { table = (write edition32 (booted edition32 m r)).table; control = ws } }) control)
         where
           control : m ∷ r ∷ 0 ∷ (m - r - 3) ∷ [] ≡ (write edition32 (booted edition32 m r)).control
           control = ap (λ (n : ℕ). m ∷ r ∷ 0 ∷ n ∷ []) (omega (arith, radix_room m ranged r rangedR)) ∙ sym (control_booted edition32 m r)

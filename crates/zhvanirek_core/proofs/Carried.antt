@@ -1,13 +1,14 @@
 -- What comes of an operation on tables that keep the rules: it goes by the state that is read from them, in which each row holds what the
 -- table's words say. So a root that the code found in the table is the one that the definition looks up.
 -- Assumes nothing.
+use Rattle.model.specs.declared.Refusal.{Refusal}
+use Rattle.std.specs.Prelude.{Ok, Err}
 use Rattle.std.specs.Prelude.{◌≡◌, ℕ, true, List, get_or}
 use mathlib.Core.Path.{sym, ap, ◌∙◌}
-use Rattle.model.specs.declared.Answer.{Answer}
 use Rattle.model.specs.declared.Cap.{Cap}
 use Rattle.model.specs.Edition.{edition32}
 use Rattle.model.specs.Tree.{Forest, cap_at}
-use Rattle.model.specs.Check.{Check, passed, refused, ◌>>=◌}
+use Rattle.model.specs.Check.{Check, ◌>>=◌}
 use Rattle.model.specs.Tables.{Tables, cap_of, read}
 use Rattle.model.specs.Rules.{well_formed}
 use Rattle.model.specs.Lookup.{lookup}
@@ -28,13 +29,13 @@ module _ (t : Tables) (formed : well_formed edition32 t ≡ true) where
   named_is caller message at = ap (λ (caps : ℕ → Cap). or_fault at (lookup edition32 caps (caps caller) (get_or message at 0) 32)) caps_are
 
   module _ (caller : ℕ) (message : List ℕ) (at : ℕ) (operation : Forest → ℕ → Check Done) where
-    pub root_refused : (a : Answer) → row_named_by (cap_of t.table) caller message at ≡ refused a
-        → record { answer = a; tables = t } ≡ carried_out edition32 t (λ f. row_named edition32 f caller message at >>= operation f)
+    pub root_refused : (a : Refusal) → row_named_by (cap_of t.table) caller message at ≡ Err a
+        → record { answer = Err a; tables = t } ≡ carried_out edition32 t (λ f. row_named edition32 f caller message at >>= operation f)
     root_refused a e =
         comes_refused edition32 t (λ f. row_named edition32 f caller message at >>= operation f) a
         (unfold ◌>>=◌ in ap (λ (c : Check ℕ). c >>= operation (read edition32 t).forest) (named_is caller message at ∙ e))
 
-    pub root_found : (k : ℕ) → row_named_by (cap_of t.table) caller message at ≡ passed k
+    pub root_found : (k : ℕ) → row_named_by (cap_of t.table) caller message at ≡ Ok k
         → carried_out edition32 t (λ f. operation f k) ≡ carried_out edition32 t (λ f. row_named edition32 f caller message at >>= operation f)
     root_found k e =
         comes_same edition32 t (λ f. operation f k) (λ f. row_named edition32 f caller message at >>= operation f)

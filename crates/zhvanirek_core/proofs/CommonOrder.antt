@@ -1,13 +1,14 @@
 -- The common order of a request, one way out after the other, as what is found of its service.
 -- Assumes nothing.
+use Rattle.model.specs.declared.Refusal.{Refusal}
+use Rattle.std.specs.Prelude.{Ok}
 use Rattle.std.specs.Prelude.{◌≡◌, ℕ, ◌+◌, ◌*◌, ◌<◌, ◌≤◌, true, false, List, length, get_or}
 use mathlib.Core.Path.{sym, ap, ◌∙◌}
 use borrow.Author.Tests.{lt-ltb, le-ltb, eq-eqb, ne_eqb}
-use Rattle.model.specs.declared.Answer.{Answer}
-use Rattle.model.specs.declared.Answer.TheVariants.{InvalidCapability, IllegalOperation, TruncatedMessage}
+use Rattle.model.specs.declared.Refusal.TheVariants.{InvalidCapability, IllegalOperation, TruncatedMessage}
 use Rattle.model.specs.declared.Row.{Row}
 use Rattle.model.specs.Cap.{is_empty}
-use Rattle.model.specs.Check.{passed, ◌>>=◌, ◌>>◌, refuse}
+use Rattle.model.specs.Check.{◌>>=◌, ◌>>◌, refuse}
 use Rattle.model.specs.Tables.{cap_of}
 use Rattle.model.specs.Request.{operation_of, invokes, words_of}
 use Rattle.lookup.specs.declared.Found.{Found}
@@ -22,13 +23,13 @@ module _ (t : List ℕ) (caller : ℕ) (message : List ℕ) where
   too_short short = finds_none t _ TruncatedMessage (rw (lt-ltb (length message) 2 short))
 
   module _ (two : 2 ≤ length message) (r : Found) (named : Finds t (row_named_by (cap_of t) caller message 1) r) where
-    pub not_named : (a : Answer) → r ≡ Refused a → Finds t (asked (cap_of t) caller message) r
+    pub not_named : (a : Refusal) → r ≡ Refused a → Finds t (asked (cap_of t) caller message) r
     unfolding asked refuse ◌>>◌ ◌>>=◌
     not_named a e =
         rw e (finds_none t _ a (rw (le-ltb (length message) 2 two, sym named.is ∙ ap of_found e)))
 
     module _ (k : Row) (at : r ≡ At k) where
-      found : row_named_by (cap_of t) caller message 1 ≡ passed k.0
+      found : row_named_by (cap_of t) caller message 1 ≡ Ok k.0
       found = sym named.is ∙ ap of_found at
 
       pub service_inside : k.0 * 8 + 8 ≤ length t

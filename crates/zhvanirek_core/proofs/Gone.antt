@@ -1,15 +1,15 @@
 -- Delete and Revoke: the row that the message names, then what the removal gives.
 -- Assumes nothing.
+use Rattle.model.specs.declared.Refusal.{Refusal}
+use Rattle.std.specs.Prelude.{Ok, Err}
 use Rattle.std.specs.Prelude.{◌≡◌, ℕ, true, false, cond, List, [], ◌∷◌}
 use mathlib.Core.Path.{sym, ap, ◌∙◌}
-use Rattle.model.specs.declared.Answer.{Answer}
-use Rattle.model.specs.declared.Answer.TheVariants.{Success}
 use Rattle.model.specs.declared.Cap.{Cap}
 use Rattle.model.specs.declared.Place.{Place}
 use Rattle.model.specs.Edition.{edition32}
 use Rattle.model.specs.Cap.{is_empty}
 use Rattle.model.specs.Tree.{Forest, cap_at}
-use Rattle.model.specs.Check.{Check, passed, refused, ◌>>=◌}
+use Rattle.model.specs.Check.{Check, ◌>>=◌}
 use Rattle.model.specs.Tables.{Tables, cap_of, read}
 use Rattle.model.specs.Rules.{well_formed}
 use Rattle.model.specs.Lookup.{lookup}
@@ -21,9 +21,9 @@ use Rattle.zhvanirek_core.proofs.Carried.{caps_are}
 
 -- what a removal leaves, as what is concluded
 gone_is : (t t' : Tables) (start : List ℕ) (gone : ℕ) → Removes t t' start gone
-    → record { answer = Success gone; tables = t' } ≡ concluded edition32 t (passed (applied (read edition32 t) (remove edition32 (read edition32 t).forest start)))
+    → record { answer = Ok gone; tables = t' } ≡ concluded edition32 t (Ok (applied (read edition32 t) (remove edition32 (read edition32 t).forest start)))
 unfolding concluded
-gone_is t t' start gone r = λ i. record { answer = Success (r.count i); tables = r.tables i }
+gone_is t t' start gone r = λ i. record { answer = Ok (r.count i); tables = r.tables i }
 
 module _ (t : Tables) (formed : well_formed edition32 t ≡ true) (message : List ℕ) (k : ℕ) (p : Place) (is : p ≡ place (cap_of t.table k) message 2 false) where
   -- the row that is looked up in the table is the one that the definition finds
@@ -37,45 +37,45 @@ module _ (t : Tables) (formed : well_formed edition32 t ≡ true) (message : Lis
   module _ (from : Forest → ℕ → List ℕ) where
     -- what starts from a row that is found
     removing : Forest → Check Done
-    removing f = find edition32 f (place (cap_at f k) message 2 false) >>= λ row. passed (remove edition32 f (from f row))
+    removing f = find edition32 f (place (cap_at f k) message 2 false) >>= λ row. Ok (remove edition32 f (from f row))
 
-    removing_refused : (a : Answer) → slot_of edition32 p.source (lookup edition32 (cap_of t.table) p.root p.index p.depth) ≡ refused a
-        → record { answer = a; tables = t } ≡ carried_out edition32 t removing
+    removing_refused : (a : Refusal) → slot_of edition32 p.source (lookup edition32 (cap_of t.table) p.root p.index p.depth) ≡ Err a
+        → record { answer = Err a; tables = t } ≡ carried_out edition32 t removing
     unfolding removing
     removing_refused a e =
         comes_refused edition32 t removing a
-        (unfold ◌>>=◌ in ap (λ (c : Check ℕ). c >>= λ row. passed (remove edition32 (read edition32 t).forest (from (read edition32 t).forest row))) (found_is ∙ e))
+        (unfold ◌>>=◌ in ap (λ (c : Check ℕ). c >>= λ row. Ok (remove edition32 (read edition32 t).forest (from (read edition32 t).forest row))) (found_is ∙ e))
 
-    removing_found : (row : ℕ) (t' : Tables) (gone : ℕ) → slot_of edition32 p.source (lookup edition32 (cap_of t.table) p.root p.index p.depth) ≡ passed row
-        → Removes t t' (from (read edition32 t).forest row) gone → record { answer = Success gone; tables = t' } ≡ carried_out edition32 t removing
+    removing_found : (row : ℕ) (t' : Tables) (gone : ℕ) → slot_of edition32 p.source (lookup edition32 (cap_of t.table) p.root p.index p.depth) ≡ Ok row
+        → Removes t t' (from (read edition32 t).forest row) gone → record { answer = Ok gone; tables = t' } ≡ carried_out edition32 t removing
     unfolding carried_out removing
     removing_found row t' gone e r =
         gone_is t t' (from (read edition32 t).forest row) gone r
-        ∙ (unfold ◌>>=◌ in sym (ap (λ (c : Check ℕ). concluded edition32 t ((c >>= λ row. passed (remove edition32 (read edition32 t).forest (from (read edition32 t).forest row))) >>= λ d. passed (applied (read edition32 t) d))) (found_is ∙ e)))
+        ∙ (unfold ◌>>=◌ in sym (ap (λ (c : Check ℕ). concluded edition32 t ((c >>= λ row. Ok (remove edition32 (read edition32 t).forest (from (read edition32 t).forest row))) >>= λ d. Ok (applied (read edition32 t) d))) (found_is ∙ e)))
 
   -- ---- Delete starts from one occupied row
 
   one : Forest → ℕ → List ℕ
   one f row = cond (is_empty (cap_at f row)) [] (row ∷ [])
 
-  pub delete_refused : (a : Answer) → slot_of edition32 p.source (lookup edition32 (cap_of t.table) p.root p.index p.depth) ≡ refused a
-      → record { answer = a; tables = t } ≡ carried_out edition32 t (λ f. delete edition32 f (place (cap_at f k) message 2 false))
+  pub delete_refused : (a : Refusal) → slot_of edition32 p.source (lookup edition32 (cap_of t.table) p.root p.index p.depth) ≡ Err a
+      → record { answer = Err a; tables = t } ≡ carried_out edition32 t (λ f. delete edition32 f (place (cap_at f k) message 2 false))
   unfolding delete removing one
   delete_refused a e = removing_refused one a e
 
-  pub delete_found : (row : ℕ) (t' : Tables) (gone : ℕ) → slot_of edition32 p.source (lookup edition32 (cap_of t.table) p.root p.index p.depth) ≡ passed row
-      → Removes t t' (target t row) gone → record { answer = Success gone; tables = t' } ≡ carried_out edition32 t (λ f. delete edition32 f (place (cap_at f k) message 2 false))
+  pub delete_found : (row : ℕ) (t' : Tables) (gone : ℕ) → slot_of edition32 p.source (lookup edition32 (cap_of t.table) p.root p.index p.depth) ≡ Ok row
+      → Removes t t' (target t row) gone → record { answer = Ok gone; tables = t' } ≡ carried_out edition32 t (λ f. delete edition32 f (place (cap_at f k) message 2 false))
   unfolding delete removing one
   delete_found row t' gone e r = removing_found one row t' gone e r
 
   -- ---- Revoke from all descendants
 
-  pub revoke_refused : (a : Answer) → slot_of edition32 p.source (lookup edition32 (cap_of t.table) p.root p.index p.depth) ≡ refused a
-      → record { answer = a; tables = t } ≡ carried_out edition32 t (λ f. revoke edition32 f (place (cap_at f k) message 2 false))
+  pub revoke_refused : (a : Refusal) → slot_of edition32 p.source (lookup edition32 (cap_of t.table) p.root p.index p.depth) ≡ Err a
+      → record { answer = Err a; tables = t } ≡ carried_out edition32 t (λ f. revoke edition32 f (place (cap_at f k) message 2 false))
   unfolding revoke removing
   revoke_refused a e = removing_refused descendants a e
 
-  pub revoke_found : (row : ℕ) (t' : Tables) (gone : ℕ) → slot_of edition32 p.source (lookup edition32 (cap_of t.table) p.root p.index p.depth) ≡ passed row
-      → Removes t t' (offspring t row) gone → record { answer = Success gone; tables = t' } ≡ carried_out edition32 t (λ f. revoke edition32 f (place (cap_at f k) message 2 false))
+  pub revoke_found : (row : ℕ) (t' : Tables) (gone : ℕ) → slot_of edition32 p.source (lookup edition32 (cap_of t.table) p.root p.index p.depth) ≡ Ok row
+      → Removes t t' (offspring t row) gone → record { answer = Ok gone; tables = t' } ≡ carried_out edition32 t (λ f. revoke edition32 f (place (cap_at f k) message 2 false))
   unfolding revoke removing
   revoke_found row t' gone e r = removing_found descendants row t' gone e r

@@ -1,10 +1,11 @@
 -- Each operation, from what the code found and made of the message, is what the definition performs.
 -- Assumes nothing.
+use Rattle.model.specs.declared.Refusal.{Refusal}
+use Rattle.std.specs.Prelude.{Ok, Err}
 use Rattle.std.specs.Prelude.{◌≡◌, ℕ, ◌+◌, ◌*◌, ◌≤◌, Bool, true, false, List, length, get_or}
 use mathlib.Core.Path.{refl, sym, ap, ap₂, ◌∙◌, subst}
-use Rattle.model.specs.declared.Answer.{Answer}
 use Rattle.model.specs.declared.Cap.{Cap}
-use Rattle.model.specs.declared.Answer.TheVariants.{IllegalOperation}
+use Rattle.model.specs.declared.Refusal.TheVariants.{IllegalOperation}
 use Rattle.model.specs.declared.Change.TheVariants.{Masked, Minted, Kept, Mutated}
 use Rattle.model.specs.declared.Operation.{Operation}
 use Rattle.model.specs.declared.Operation.TheVariants.{Copy, Mint, Move, Mutate, Delete, Revoke, Rotate, Retype, Unknown}
@@ -13,7 +14,7 @@ use Rattle.model.specs.declared.Retyping.{Retyping}
 use Rattle.model.specs.Edition.{edition32}
 use Rattle.model.specs.Cap.{is_cnode, is_untyped}
 use Rattle.model.specs.Tree.{Forest, cap_at}
-use Rattle.model.specs.Check.{Check, passed, refused}
+use Rattle.model.specs.Check.{Check}
 use Rattle.model.specs.Tables.{Tables, cap_of, read}
 use Rattle.model.specs.Rules.{well_formed}
 use Rattle.model.specs.Operations.{Done, copy, move, rotate, delete, revoke, retype}
@@ -50,12 +51,12 @@ module _ (t : Tables) (formed : well_formed edition32 t ≡ true) (caller : ℕ)
     between : Forest → ℕ → Check Done
     between f root = operation f (place (cap_at f k) message 2 false) (place (cap_at f root) message 5 true)
 
-    pub two_refused : (a : Answer) → row_named_by (cap_of t.table) caller message 4 ≡ refused a
-        → record { answer = a; tables = t } ≡ carried_out edition32 t (λ f. two_places operation f caller message k)
+    pub two_refused : (a : Refusal) → row_named_by (cap_of t.table) caller message 4 ≡ Err a
+        → record { answer = Err a; tables = t } ≡ carried_out edition32 t (λ f. two_places operation f caller message k)
     unfolding two_places between
     two_refused a e = root_refused t formed caller message 4 between a e
 
-    pub two_found : (root : ℕ) (dest source : Place) → row_named_by (cap_of t.table) caller message 4 ≡ passed root
+    pub two_found : (root : ℕ) (dest source : Place) → row_named_by (cap_of t.table) caller message 4 ≡ Ok root
         → dest ≡ place (cap_of t.table k) message 2 false → source ≡ place (cap_of t.table root) message 5 true
         → carried_out edition32 t (λ f. operation f dest source) ≡ carried_out edition32 t (λ f. two_places operation f caller message k)
     unfolding two_places between
@@ -72,12 +73,12 @@ module _ (t : Tables) (formed : well_formed edition32 t ≡ true) (caller : ℕ)
     turned f source =
         rotate edition32 f (place (cap_at f k) message 2 false) (place (cap_at f pivot) message 6 false) (place (cap_at f source) message 10 true) (get_or message 4 0) (get_or message 8 0)
 
-    pub turn_refused : (a : Answer) → row_named_by (cap_of t.table) caller message 9 ≡ refused a
-        → record { answer = a; tables = t } ≡ carried_out edition32 t (λ f. turned_from f caller message k pivot)
+    pub turn_refused : (a : Refusal) → row_named_by (cap_of t.table) caller message 9 ≡ Err a
+        → record { answer = Err a; tables = t } ≡ carried_out edition32 t (λ f. turned_from f caller message k pivot)
     unfolding turned_from turned
     turn_refused a e = root_refused t formed caller message 9 turned a e
 
-    pub turn_found : (root : ℕ) (dest mid source : Place) (datum pivot_datum : ℕ) → row_named_by (cap_of t.table) caller message 9 ≡ passed root
+    pub turn_found : (root : ℕ) (dest mid source : Place) (datum pivot_datum : ℕ) → row_named_by (cap_of t.table) caller message 9 ≡ Ok root
         → dest ≡ place (cap_of t.table k) message 2 false → mid ≡ place (cap_of t.table pivot) message 6 false → source ≡ place (cap_of t.table root) message 10 true
         → datum ≡ get_or message 4 0 → pivot_datum ≡ get_or message 8 0
         → carried_out edition32 t (λ f. rotate edition32 f dest mid source datum pivot_datum) ≡ carried_out edition32 t (λ f. turned_from f caller message k pivot)
@@ -88,12 +89,12 @@ module _ (t : Tables) (formed : well_formed edition32 t ≡ true) (caller : ℕ)
         ∙ ap (λ (caps : ℕ → Cap). rotate edition32 (read edition32 t).forest (place (caps k) message 2 false) (place (caps pivot) message 6 false) (place (caps root) message 10 true) (get_or message 4 0) (get_or message 8 0)) (sym (caps_are t formed)))
         ∙ root_found t formed caller message 9 turned root e
 
-  pub pivot_refused : (a : Answer) → row_named_by (cap_of t.table) caller message 5 ≡ refused a
-      → record { answer = a; tables = t } ≡ carried_out edition32 t (λ f. perform edition32 f caller message k Rotate)
+  pub pivot_refused : (a : Refusal) → row_named_by (cap_of t.table) caller message 5 ≡ Err a
+      → record { answer = Err a; tables = t } ≡ carried_out edition32 t (λ f. perform edition32 f caller message k Rotate)
   unfolding perform turned_from
   pivot_refused a e = root_refused t formed caller message 5 (λ f pivot. turned_from f caller message k pivot) a e
 
-  pub pivot_found : (pivot : ℕ) → row_named_by (cap_of t.table) caller message 5 ≡ passed pivot
+  pub pivot_found : (pivot : ℕ) → row_named_by (cap_of t.table) caller message 5 ≡ Ok pivot
       → carried_out edition32 t (λ f. turned_from f caller message k pivot) ≡ carried_out edition32 t (λ f. perform edition32 f caller message k Rotate)
   unfolding perform turned_from
   pivot_found pivot e = root_found t formed caller message 5 (λ f pivot. turned_from f caller message k pivot) pivot e
@@ -103,12 +104,12 @@ module _ (t : Tables) (formed : well_formed edition32 t ≡ true) (caller : ℕ)
   retyped : Forest → ℕ → Check Done
   retyped f root = retype edition32 f k (retyping_by (cap_at f) message root)
 
-  pub retype_refused : (a : Answer) → row_named_by (cap_of t.table) caller message 4 ≡ refused a
-      → record { answer = a; tables = t } ≡ carried_out edition32 t (λ f. perform edition32 f caller message k Retype)
+  pub retype_refused : (a : Refusal) → row_named_by (cap_of t.table) caller message 4 ≡ Err a
+      → record { answer = Err a; tables = t } ≡ carried_out edition32 t (λ f. perform edition32 f caller message k Retype)
   unfolding perform retyped retyping_by
   retype_refused a e = root_refused t formed caller message 4 retyped a e
 
-  pub retype_found : (root : ℕ) (q : Retyping) → row_named_by (cap_of t.table) caller message 4 ≡ passed root → q ≡ retyping_by (cap_of t.table) message root
+  pub retype_found : (root : ℕ) (q : Retyping) → row_named_by (cap_of t.table) caller message 4 ≡ Ok root → q ≡ retyping_by (cap_of t.table) message root
       → carried_out edition32 t (λ f. retype edition32 f k q) ≡ carried_out edition32 t (λ f. perform edition32 f caller message k Retype)
   unfolding perform retyped retyping_by
   retype_found root q e asked =

@@ -1,14 +1,15 @@
 -- A request: bad tables, a refusal before the operation, and the operation.
 -- Assumes nothing.
+use Rattle.model.specs.declared.Refusal.{Refusal}
+use Rattle.std.specs.Prelude.{Ok, Err}
 use Rattle.std.specs.Prelude.{◌≡◌, ℕ, true, false, List, get_or}
 use mathlib.Core.Path.{refl, sym, ap, ◌∙◌}
 use borrow.Author.Tests.{not-false}
-use Rattle.model.specs.declared.Answer.{Answer}
-use Rattle.model.specs.declared.Answer.TheVariants.{BadTables}
+use Rattle.model.specs.declared.Refusal.TheVariants.{BadTables}
 use Rattle.model.specs.declared.Cap.{Cap}
 use Rattle.model.specs.Edition.{edition32}
 use Rattle.model.specs.Tree.{Forest, cap_at}
-use Rattle.model.specs.Check.{Check, passed, refused, ◌>>=◌}
+use Rattle.model.specs.Check.{Check, ◌>>=◌}
 use Rattle.model.specs.Tables.{Tables, cap_of, read}
 use Rattle.model.specs.Rules.{well_formed}
 use Rattle.model.specs.Request.{operation_of, invokes, row_named, perform, served, carried_out, request}
@@ -19,7 +20,7 @@ use Rattle.zhvanirek_core.proofs.Carried.{caps_are}
 
 -- ---- what is checked first, and the rest
 
-pass_bind : {A B : Type 0} (a : A) (f : A → Check B) → (passed a >>= f) ≡ f a
+pass_bind : {A B : Type 0} (a : A) (f : A → Check B) → (Ok a >>= f) ≡ f a
 unfolding ◌>>=◌
 pass_bind a f = refl
 
@@ -30,7 +31,7 @@ unfolding served asked row_named row_named_by
 served_is f caller message = sym (simp (then_bind, bind_bind, pass_bind))
 
 -- a service that was found is of the operation's kind
-pub asked_invokes : (caps : ℕ → Cap) (caller : ℕ) (message : List ℕ) (k : ℕ) → asked caps caller message ≡ passed k → invokes (caps k) (operation_of (get_or message 0 0)) ≡ true
+pub asked_invokes : (caps : ℕ → Cap) (caller : ℕ) (message : List ℕ) (k : ℕ) → asked caps caller message ≡ Ok k → invokes (caps k) (operation_of (get_or message 0 0)) ≡ true
 unfolding asked
 asked_invokes caps caller message k e =
     passes_at (λ j. invokes (caps j) (operation_of (get_or message 0 0)) ≡ true)
@@ -55,14 +56,14 @@ module _ (t : Tables) (caller : ℕ) (message : List ℕ) where
     asked_is : asked (cap_at (read edition32 t).forest) caller message ≡ asked (cap_of t.table) caller message
     asked_is = ap (λ (caps : ℕ → Cap). asked caps caller message) (caps_are t formed)
 
-    pub request_refused : (a : Answer) → asked (cap_of t.table) caller message ≡ refused a → record { answer = a; tables = t } ≡ request edition32 t caller message
+    pub request_refused : (a : Refusal) → asked (cap_of t.table) caller message ≡ Err a → record { answer = Err a; tables = t } ≡ request edition32 t caller message
     request_refused a e =
         comes_refused edition32 t (λ f. served edition32 f caller message) a
         (served_is (read edition32 t).forest caller message
         ∙ (unfold ◌>>=◌ in ap (λ (c : Check ℕ). c >>= λ k. perform edition32 (read edition32 t).forest caller message k (operation_of (get_or message 0 0))) (asked_is ∙ e)))
         ∙ sym opened
 
-    pub request_found : (k : ℕ) → asked (cap_of t.table) caller message ≡ passed k
+    pub request_found : (k : ℕ) → asked (cap_of t.table) caller message ≡ Ok k
         → carried_out edition32 t (λ f. perform edition32 f caller message k (operation_of (get_or message 0 0))) ≡ request edition32 t caller message
     request_found k e =
         comes_same edition32 t (λ f. perform edition32 f caller message k (operation_of (get_or message 0 0))) (λ f. served edition32 f caller message)

@@ -1,11 +1,12 @@
 -- A request's common order up to what the operation does, over the capabilities of the rows.
+use Rattle.std.specs.Prelude.{Ok}
 use Rattle.std.specs.Prelude.{ℕ, false, not, List, length, nat_lt, slice_index}
-use Rattle.model.specs.declared.Answer.TheVariants.{InvalidCapability, IllegalOperation, TruncatedMessage}
+use Rattle.model.specs.declared.Refusal.TheVariants.{InvalidCapability, IllegalOperation, TruncatedMessage}
 use Rattle.model.specs.declared.Cap.{Cap}
 use Rattle.model.specs.declared.Retyping.{Retyping}
 use Rattle.model.specs.Edition.{edition32}
 use Rattle.model.specs.Cap.{is_empty}
-use Rattle.model.specs.Check.{Check, passed, ◌>>=◌, ◌>>◌, refuse}
+use Rattle.model.specs.Check.{Check, ◌>>=◌, ◌>>◌, refuse}
 use Rattle.model.specs.Lookup.{lookup}
 use Rattle.model.specs.Request.{or_fault, operation_of, invokes, words_of, place}
 
@@ -21,7 +22,7 @@ asked caps caller message = do
   refuse InvalidCapability (is_empty (caps k))
   refuse IllegalOperation (not (invokes (caps k) (operation_of (slice_index message 0))))
   refuse TruncatedMessage (nat_lt (length message) (words_of (operation_of (slice_index message 0))))
-  passed k
+  Ok k
 
 -- what a message asks of Retype, with its root in row `root`
 unfoldable pub retyping_by : (caps : ℕ → Cap) → (message : List ℕ) → (root : ℕ) → Retyping
