@@ -1,3 +1,0 @@
-mod Shift
-mod Children
-mod Objects
