@@ -1,7 +1,7 @@
 // The lookup of a capability address in a lent slot table.
 #![tactic(auto)]
 
-ghost use Rattle.std.specs.Prelude.{◌≡◌, true, ◌+◌, ◌*◌, ◌≤◌, length};
+ghost use Rattle.std.specs.Prelude.{◌≡◌, true, ◌+◌, ◌*◌, ◌≤◌, length, Err};
 ghost use Rattle.model.specs.Edition.{edition32};
 ghost use Rattle.model.specs.Cap.{is_cnode};
 ghost use Rattle.model.specs.Tables as tables;
@@ -11,7 +11,7 @@ ghost use Rattle.model.specs.Request.{or_fault};
 ghost use Rattle.lookup.specs.Finds.{Finds};
 ghost use Rattle.lookup.specs.Ready.{Ready, Usable};
 
-use model::{Answer, CNODE, Cap, Failure, Looked, Place, Row};
+use model::{Cap, Failure, Kind, Miss, Place, Refusal, Row};
 use table::size::pow2;
 use table::{cap_at, row_of};
 
@@ -34,16 +34,16 @@ fn guard_missed(node: Cap, address: u32, left: u32) -> bool
 }
 
 // The slot that an address names, from a root. Only the low `depth` bits of the address count.
-pub fn lookup(t: &[u32], root: Cap, address: u32, depth: u32) -> Looked
+pub fn lookup(t: &[u32], root: Cap, address: u32, depth: u32) -> Result<Row, Miss>
     requires ready { Ready t.now }
     requires usable { (is_cnode root ≡ true → Usable t.now root) }
     ensures { result ≡ spec.lookup edition32 (tables.cap_of t.now) root address depth }
 {
-    if root.kind != CNODE {
-        return Looked::Failed(Failure::InvalidRoot);
+    if !root.is(Kind::CNode) {
+        return Err(Miss::Failed(Failure::InvalidRoot));
     }
     if depth < 1 || 32 < depth {
-        return Looked::DepthOutOfRange;
+        return Err(Miss::DepthOutOfRange);
     }
     let mut node = root;
     let mut left = depth;
@@ -51,32 +51,32 @@ pub fn lookup(t: &[u32], root: Cap, address: u32, depth: u32) -> Looked
         let missed = guard_missed(node, address, left);
         let taken = node.fourth + node.size;
         if missed {
-            return Looked::Failed(Failure::GuardMismatch {
+            return Err(Miss::Failed(Failure::GuardMismatch {
                 bits: left,
                 guard: node.third,
                 size: node.fourth,
-            });
+            }));
         }
         if left < taken {
-            return Looked::Failed(Failure::DepthMismatch {
+            return Err(Miss::Failed(Failure::DepthMismatch {
                 bits: left,
                 resolved: taken,
-            });
+            }));
         }
         let first = row_of(node.address);
         let unguarded = left - node.fourth;
         let row = first.0 + field(address, unguarded, node.size);
         let slot = Row(row);
         if left == taken {
-            return Looked::Slot(slot);
+            return Ok(slot);
         }
         let rest = left - taken;
         let next = cap_at(t, slot);
-        if next.kind != CNODE {
-            return Looked::Failed(Failure::DepthMismatch {
+        if !next.is(Kind::CNode) {
+            return Err(Miss::Failed(Failure::DepthMismatch {
                 bits: rest,
                 resolved: 0,
-            });
+            }));
         }
         node = next;
         left = rest;
@@ -84,7 +84,7 @@ pub fn lookup(t: &[u32], root: Cap, address: u32, depth: u32) -> Looked
 }
 
 // The same, from the capability in a row.
-pub fn lookup_from(t: &[u32], row: Row, address: u32, depth: u32) -> Looked
+pub fn lookup_from(t: &[u32], row: Row, address: u32, depth: u32) -> Result<Row, Miss>
     requires ready { Ready t.now }
     requires inside { row.0 * 8 + 8 ≤ length t.now }
     ensures { result ≡ spec.lookup edition32 (tables.cap_of t.now) (tables.cap_of t.now row.0) address depth }
@@ -92,46 +92,46 @@ pub fn lookup_from(t: &[u32], row: Row, address: u32, depth: u32) -> Looked
     lookup(t, cap_at(t, row), address, depth)
 }
 
-// What a place or a message word names: a row, or what the request is told.
-#[derive(Clone, Copy)]
-pub enum Found {
-    At(Row),
-    Refused(Answer),
+// What a request is told where a place is missed.
+#[tactic(auto, unfolding(model::specs::Operations::slot_of))]
+fn missed_place(source: bool, miss: Miss) -> Refusal
+    ensures { slot_of edition32 source (Err miss) ≡ Err result }
+{
+    match miss {
+        Miss::Failed(failure) => Refusal::FailedLookup { source, failure },
+        Miss::DepthOutOfRange => Refusal::RangeError {
+            least: 1,
+            greatest: 32,
+        },
+    }
 }
 
 // The row that a place names.
-pub fn find(t: &[u32], p: Place) -> Found
+pub fn find(t: &[u32], p: Place) -> Result<Row, Refusal>
     requires ready { Ready t.now }
     requires usable { (is_cnode p.root ≡ true → Usable t.now p.root) }
     ensures { Finds t.now (slot_of edition32 p.source (spec.lookup edition32 (tables.cap_of t.now) p.root p.index p.depth)) result }
 {
-    let looked = lookup(t, p.root, p.index, p.depth);
-    match looked {
-        Looked::Slot(row) => Found::At(row),
-        Looked::Failed(failure) => Found::Refused(Answer::FailedLookup {
-            source: p.source,
-            failure,
-        }),
-        Looked::DepthOutOfRange => Found::Refused(Answer::RangeError {
-            least: 1,
-            greatest: 32,
-        }),
-    }
+    lookup(t, p.root, p.index, p.depth).map_err(|miss| missed_place(p.source, miss))
+}
+
+// What a request is told where the address in message word `at` is missed.
+#[tactic(auto, unfolding(model::specs::Request::or_fault))]
+fn missed_word(at: u32, miss: Miss) -> Refusal
+    ensures { or_fault at (Err miss) ≡ Err result }
+{
+    let failure = match miss {
+        Miss::Failed(failure) => failure,
+        Miss::DepthOutOfRange => Failure::InvalidRoot,
+    };
+    Refusal::CapFault { word: at, failure }
 }
 
 // The row that the address in message word `at` names, from a root and at full depth.
-pub fn named(t: &[u32], root: Cap, address: u32, at: u32) -> Found
+pub fn named(t: &[u32], root: Cap, address: u32, at: u32) -> Result<Row, Refusal>
     requires ready { Ready t.now }
     requires usable { (is_cnode root ≡ true → Usable t.now root) }
     ensures { Finds t.now (or_fault at (spec.lookup edition32 (tables.cap_of t.now) root address 32)) result }
 {
-    let looked = lookup(t, root, address, 32);
-    match looked {
-        Looked::Slot(row) => Found::At(row),
-        Looked::Failed(failure) => Found::Refused(Answer::CapFault { word: at, failure }),
-        Looked::DepthOutOfRange => Found::Refused(Answer::CapFault {
-            word: at,
-            failure: Failure::InvalidRoot,
-        }),
-    }
+    lookup(t, root, address, 32).map_err(|miss| missed_word(at, miss))
 }

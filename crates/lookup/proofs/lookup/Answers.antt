@@ -4,7 +4,8 @@ use Prim.Native.Nat.{ℕ, ◌+◌, ◌-◌, ◌*◌, ◌/◌, ◌≤◌, ◌<◌
 use mathlib.Core.Path.{◌≡◌, sym, ap₂, ◌∙◌}
 use mathlib.Core.List.{List}
 use native.Mathlib.Omega.{arith}
-use borrow.Author.Tests.{le-leb, lt-leb, eq-eqb, ne_eqb}
+use borrow.Author.Tests.{le-leb, lt-leb}
+use mathlib.Core.Bool.{true}
 use lib.ListN.{length}
 use Rattle.model.specs.declared.Cap.{Cap}
 use Rattle.model.specs.Edition.{edition32}
@@ -20,14 +21,14 @@ use Rattle.lookup.proofs.lookup.Goals.{then-depth-lt1-via-else-depth-lt1+then-de
 
 -- ---- before the loop
 
-pub returns-then-root-ne-CNODE : goal.returns-then-root-ne-CNODE
-unfolding is_cnode lookup
-returns-then-root-ne-CNODE c = rw (lookup, ne_eqb _ 5 c.if-root-ne-CNODE.true)
+pub returns-then-not-is : goal.returns-then-not-is
+unfolding lookup
+returns-then-not-is c = rw (lookup, sym c.is.ensures ∙ c.if-not-is.true)
 
 pub returns-then-depth-lt1 : goal.returns-then-depth-lt1
 unfolding is_cnode lookup within
 returns-then-depth-lt1 c =
-    rw (lookup, eq-eqb _ 5 c.if-root-ne-CNODE.false)
+    rw (lookup, sym c.is.ensures ∙ c.if-not-is.false)
     (elim c.then-depth-lt1.branch [
       | then-depth-lt1-via-then-depth-lt1 w ↦ rw (lt-leb 1 _ w.if-depth-lt1.true)
       | then-depth-lt1-via-else-depth-lt1+then-depth-gt32 w ↦ rw (le-leb 1 _ w.if-depth-lt1.false) (rw (lt-leb c.args.depth 32 (omega (arith, w.if-depth-gt32.true))))
@@ -36,16 +37,16 @@ returns-then-depth-lt1 c =
 pub loop-node-init : goal.loop-node-init
 unfolding is_cnode lookup
 loop-node-init c =
-    let is = c.if-root-ne-CNODE.false in
+    let is : is_cnode c.args.root ≡ true = sym c.is.ensures ∙ c.if-not-is.false in
     let least = c.if-depth-lt1.false in
     let most = c.if-depth-gt32.false in
     record {
-      usable = c.requires.usable (eq-eqb _ 5 is);
+      usable = c.requires.usable is;
       some = least;
       most = most;
       levels = 32;
       enough = most;
-      same = rw (lookup, eq-eqb _ 5 is) (rw (parts_within 1 _ 32 least most));
+      same = rw (lookup, is) (rw (parts_within 1 _ 32 least most));
     }
 
 -- ---- the tests of a level
@@ -87,23 +88,23 @@ more : (node : Cap) (left : ℕ) → node.fourth + node.size ≤ left → (left 
 unfolding taken
 more node left deep on = omega arith
 
-pub returns-then-next-ne-CNODE : goal.returns-then-next-ne-CNODE
-unfolding taken is_cnode
-returns-then-next-ne-CNODE c =
-    let other = rw c.cap_at-next.ensures at c.if-next-ne-CNODE.true in
+pub returns-then-not-is-2 : goal.returns-then-not-is-2
+unfolding taken
+returns-then-not-is-2 c =
+    let other = rw c.cap_at-next.ensures at (sym c.is-in-loop-node.ensures ∙ c.if-not-is-2.true) in
     ends c.loop-node.invariant
     (no_node _ _ _ _ _ (sym c.guard_missed-missed.ensures ∙ c.if-missed.false) _ (there _ _ _ _ _ c.row_of-first.ensures c.field.ensures)
-    (more c.loop-node.node _ c.if-left-taken.false c.if-left-taken-2.false) (ne_eqb _ 5 other))
+    (more c.loop-node.node _ c.if-left-taken.false c.if-left-taken-2.false) other)
 
 pub loop-node-preserved : goal.loop-node-preserved
-unfolding taken is_cnode
+unfolding taken
 loop-node-preserved c =
     let deeper = more c.loop-node.node _ c.if-left-taken.false c.if-left-taken-2.false in
     let next = c.cap_at-next.ensures in
-    let is : (cap_of c.args.t.now (c.row_of-first.result.0 + c.field.result)).kind ≡ 5 = rw next at c.if-next-ne-CNODE.false in
+    let is : is_cnode (cap_of c.args.t.now (c.row_of-first.result.0 + c.field.result)) ≡ true = rw next at (sym c.is-in-loop-node.ensures ∙ c.if-not-is-2.false) in
     rw next
     (goes_on c.loop-node.invariant
-    (node _ _ _ _ _ (sym c.guard_missed-missed.ensures ∙ c.if-missed.false) _ (there _ _ _ _ _ c.row_of-first.ensures c.field.ensures) deeper (eq-eqb _ 5 is))
-    (c.requires.ready.nodes (c.row_of-first.result.0 + c.field.result) (eq-eqb _ 5 is))
+    (node _ _ _ _ _ (sym c.guard_missed-missed.ensures ∙ c.if-missed.false) _ (there _ _ _ _ _ c.row_of-first.ensures c.field.ensures) deeper is)
+    (c.requires.ready.nodes (c.row_of-first.result.0 + c.field.result) is)
     (omega (arith, deeper))
     (omega (arith, deeper, c.loop-node.invariant.usable.wide)))
