@@ -1,11 +1,8 @@
--- The loop keeps `Scanned`. The measure is the rows left.
-use Prim.Native.Nat.{◌-◌, ◌≤◌}
+-- Each row so far is allowed, and so many are occupied.
+use Rattle.std.proofs.Common.{◌≡◌, ◌≤◌, true}
 use Rattle.model.specs.Edition.{edition32}
-use Rattle.rules_row.proofs.Scan.{Scanned}
+use Rattle.model.specs.Rules.{rows_allowed, occupied}
 use Rattle.rules_row.proofs.rows_allowed.Given as goal
 
 abbrev pub invariant-loop-k : goal.invariant-loop-k
-invariant-loop-k l = (l.k ≤ l.rows) × Scanned edition32 l.m l.t l.k l.occupied
-
-abbrev pub decreases-loop-k : goal.decreases-loop-k
-decreases-loop-k l = l.rows - l.k
+invariant-loop-k l = record { allowed : rows_allowed edition32 l.m l.t l.k ≡ true; counted : l.occupied ≡ occupied l.t l.k; most : l.occupied ≤ l.k }

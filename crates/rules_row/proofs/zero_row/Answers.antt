@@ -1,14 +1,16 @@
--- The words from word i on are zero exactly if all eight are. The measure is the words left.
-use mathlib.Core.Path.{sym, ◌∙◌}
-use native.Mathlib.Omega.{arith}
-use Rattle.rules_row.proofs.Scan.{zeros_on, zeros_stop, zeros_done}
+-- `all` over the row's words is the definition's recursion over them.
+use Rattle.std.proofs.Common.{rules, tests, eqb, ◌∙◌, ◌+◌, ◌*◌, refl}
+use Rattle.std.specs.List.{between}
+use Rattle.std.proofs.lemmas.Iterator.{YieldsList-from_slice}
+use Rattle.std.proofs.lemmas.Iterator.Search.{all_from_yields_List}
+use Rattle.model.specs.Rules.{zeros}
+use Rattle.rules_row.proofs.Runs.{all_between}
 use Rattle.rules_row.proofs.zero_row.Goals as goal
 
-pub returns-then-word-ne0 : goal.returns-then-word-ne0
-returns-then-word-ne0 c = sym (zeros_stop _ _ _ c.loop-i-test.true (λ e. c.if-word-ne0.true (c.word.ensures ∙ e))) ∙ c.loop-i.invariant.1
-
-pub loop-i-preserved : goal.loop-i-preserved
-loop-i-preserved c = (omega arith, sym (zeros_on _ _ _ c.loop-i-test.true (sym c.word.ensures ∙ c.if-word-ne0.false)) ∙ c.loop-i.invariant.1)
-
 pub returns : goal.returns
-returns c = sym (zeros_done _ _ _ c.loop-i-test.false) ∙ c.loop-i.invariant.1
+unfolding zeros
+returns c =
+    let t = c.args.t.now in
+    let at = c.args.row.0 * 8 in
+    all_from_yields_List (λ w. eqb w 0) _ _ _ c.all.ensures.ran (YieldsList-from_slice (between at (at + 8) t) cc) (λ x b q k. search (rules, tests))
+    ∙ all_between (λ w. eqb w 0) t (zeros t) (λ _. refl) (λ _ _. refl) at 8 c.requires
