@@ -12,7 +12,7 @@ use Rattle.model.specs.declared.Refusal.TheVariants.{NotEnoughMemory}
 use Rattle.model.specs.declared.Cap.{Cap}
 use Rattle.model.specs.declared.Retyping.{Retyping}
 use Rattle.model.specs.Cap.{is_empty, bytes, exponent}
-use Rattle.model.specs.Check.{refuse, ◌>>=◌}
+use Rattle.model.specs.Check.{Check, refuse, ◌>>=◌}
 use Rattle.model.specs.Tables.{Tables, rows, word, cap_of, read, write}
 use Rattle.model.specs.Tree.{Forest, has_children, cap_at}
 use Rattle.model.specs.Operations.{any_taken, start, allot, allotted, align_up}
@@ -22,15 +22,14 @@ use Rattle.model.proofs.Words.Caps.{caps_read}
 use Rattle.model.proofs.Words.Descendants.{children_test}
 use Rattle.model.proofs.Kept.Allowed.{untyped_filled}
 use Rattle.model.proofs.Words.Held.{held_at, held_fits}
-use Rattle.model.proofs.Outcome.{comes_refused, comes_done}
+use Rattle.model.proofs.Outcome.{comes_refused, comes_done, then_bind}
 use Rattle.model.proofs.Retype.Allotted.{write_allotted}
 use Rattle.table.specs.Children.{deeper_next}
 use Rattle.retype.specs.Allotting.{memory_for, Bounded, Vacant, allotting}
 use Rattle.retype.specs.Laid.{unit, laid_out, Layable}
 use Rattle.retype.specs.Window.{taken_by}
 use Rattle.retype.proofs.Bytes.{bytes_small, at_small, objects_most}
-use Rattle.retype.proofs.Passed.{through, same}
-use Rattle.retype.proofs.Tests.{then_bind}
+use Rattle.retype.proofs.Passed.{through}
 use Rattle.retype.proofs.Whole.{taken_by_lem}
 use Rattle.retype.proofs.Untyped.{Small, small}
 
@@ -70,11 +69,11 @@ module _ (t : Tables) (k : ℕ) (q : Retyping) (first : ℕ) (v : Vacant t k q f
         let from_is : cond (has_children forest k) u.third 0 ≡ from = ap (λ (b : Bool). cond b u.third 0) children ∙ sym starts in
         rw (cap, from_is) (allot_by edition32 k u from q first)
 
-    pub allot_refused : (a : Refusal) → Err a ≡ memory_for edition32 u from q → record { answer = Err a; tables = t } ≡ carried_out edition32 t (allotting k first q)
+    pub allot_refused : (a : Refusal) → ◌≡◌ {A = Check ℕ} (Err a) (memory_for edition32 u from q) → record { answer = Err a; tables = t } ≡ carried_out edition32 t (allotting k first q)
     unfolding forest ◌>>=◌
     allot_refused a e = comes_refused edition32 t (allotting k first q) a (allotting_is ∙ rw (sym e))
 
-    pub allot_done : (at : ℕ) → Ok at ≡ memory_for edition32 u from q → (t' : Tables) → t' ≡ laid_out t k first at q → record { answer = Ok q.window; tables = t' } ≡ carried_out edition32 t (allotting k first q)
+    pub allot_done : (at : ℕ) → ◌≡◌ {A = Check ℕ} (Ok at) (memory_for edition32 u from q) → (t' : Tables) → t' ≡ laid_out t k first at q → record { answer = Ok q.window; tables = t' } ≡ carried_out edition32 t (allotting k first q)
     unfolding forest ◌>>=◌ laid_out allotted cap_of
     allot_done at e t' stores =
         let low : first + q.window ≤ rows edition32 (get_or t.control 0 0) = omega (arith, v.rows, sizes.long) in
@@ -92,13 +91,13 @@ module _ (t : Tables) (k : ℕ) (q : Retyping) (first : ℕ) (v : Vacant t k q f
         inside : from ≤ bytes edition32 u
         inside = start_inside (deeper_next t.table k) starts
 
-    pub layable : (at : ℕ) → Ok at ≡ memory_for edition32 u from q → Layable t k first at q
+    pub layable : (at : ℕ) → ◌≡◌ {A = Check ℕ} (Ok at) (memory_for edition32 u from q) → Layable t k first at q
     unfolding memory_for cap_of
     layable at e =
-        let h = through _ _ _ at (sym e) in
+        let (few, rest) = through _ _ _ at (sym e) in
         let x : ℕ = exponent edition32 q.object q.size in
-        let fits : q.window ≤ (bytes edition32 u - from) / 2 ^ x = ltb-false _ _ h.0 in
-        let is_at : align_up from x ≡ at = same _ _ h.1 in
+        let fits : q.window ≤ (bytes edition32 u - from) / 2 ^ x = ltb-false _ _ few in
+        let is_at : align_up from x ≡ at = cc in
         let most : bytes edition32 u ≤ 32768 = bytes_small u bounded.small in
         let objects : q.window * unit q ≤ bytes edition32 u - from = objects_most (bytes edition32 u - from) x q.window fits in
         let begins : align_up from x ≤ 65536 = at_small (bytes edition32 u) from x q.window most bounded.inside bounded.some fits in

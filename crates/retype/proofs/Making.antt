@@ -12,13 +12,13 @@ use Rattle.model.specs.Stores.{linked_run}
 use Rattle.model.specs.Tables.{Tables, word}
 use Rattle.retype.specs.Laid.{unit, new_rows, laid_out, Layable}
 
--- the objects' bytes as a shift
-pub shifted : (t : Tables) (k first at : ℕ) (q : Retyping) → Layable t k first at q → (x : ℕ) → x ≡ exponent edition32 q.object q.size → (q.window * 2 ^ x) % 2 ^ 64 ≡ q.window * unit q
-shifted t k first at q l x e = rw e (mod-eq_of_lt (omega (arith, l.end)))
-
-pub laid : (t : Tables) (k first at : ℕ) (q : Retyping) (address next depth objects : ℕ) (marked run : List ℕ)
-    → address ≡ word t.table k 1 → next ≡ word t.table k 5 → depth ≡ word t.table k 7 → objects ≡ q.window * unit q
-    → marked ≡ set t.table (k * 8 + 3) (at + objects) → run ≡ linked_run marked k next (new_rows q (depth + 1) first (address + at) q.window)
-    → record { table = run; control = set t.control 3 (q.window + get_or t.control 3 0) } ≡ laid_out t k first at q
+-- the objects' bytes, `w` of 2^x, are a shift
+pub laid : (t : Tables) (k first at : ℕ) (q : Retyping) → Layable t k first at q → (address next depth x a w : ℕ) (marked run : List ℕ)
+    → address ≡ word t.table k 1 → next ≡ word t.table k 5 → depth ≡ word t.table k 7 → x ≡ exponent edition32 q.object q.size → a ≡ at → w ≡ q.window
+    → marked ≡ set t.table (k * 8 + 3) (a + w * 2 ^ x % 2 ^ 64) → run ≡ linked_run marked k next (new_rows q (depth + 1) first (address + at) q.window)
+    → record { table = run; control = set t.control 3 (get_or t.control 3 0 + q.window) } ≡ laid_out t k first at q
 unfolding laid_out
-laid t k first at q address next depth objects marked run a n d o m r = rw (r, m, a, n, d, o)
+laid t k first at q l address next depth x a w marked run at_word at_next at_depth by starts all mark links =
+    let objects : q.window * unit q % 2 ^ 64 ≡ q.window * unit q = mod-eq_of_lt (omega (arith, l.end)) in
+    let count : q.window + get_or t.control 3 0 ≡ get_or t.control 3 0 + q.window = omega arith in
+    rw (links, mark, at_word, at_next, at_depth, by, starts, all, objects, count)

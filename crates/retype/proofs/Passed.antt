@@ -9,7 +9,7 @@ use native.Mathlib.Omega.{arith}
 use lib.Dec.{eqb}
 use lib.ListN.{length}
 use borrow.Author.Tests.{leb-false, ltb-false, eqb-false, not-false}
-use Rattle.model.specs.Edition.{edition32, most_rows}
+use Rattle.model.specs.Edition.{edition32}
 use Rattle.model.specs.declared.Cap.{Cap}
 use Rattle.model.specs.declared.Retyping.{Retyping}
 use Rattle.model.specs.declared.Place.{Place}
@@ -22,11 +22,8 @@ use Rattle.model.proofs.Booleans.{or_none}
 use Rattle.lookup.specs.Ready.{Ready, Usable}
 use Rattle.retype.specs.Window.{node_by, window_in}
 
-never : {A : Type 0} (a : Refusal) (x : A) → Err a ≡ Ok x → ⊥
-never a x e = let z : ◌≡◌ {A = ℕ} 0 1 = cc in omega arith
-
-pub same : (j k : ℕ) → Ok j ≡ Ok k → j ≡ k
-same j k e = cc
+never : {A : Type 0} (a : Refusal) (x : A) → ◌≡◌ {A = Check A} (Err a) (Ok x) → ⊥
+never a x e = cc
 
 -- a test that passed, and what came after it
 pub through : {A : Type 0} (a : Refusal) (b : Bool) (rest : Check A) (x : A) → (refuse a b >> rest) ≡ Ok x → (b ≡ false) × (rest ≡ Ok x)
@@ -55,39 +52,33 @@ pub record Placed (n : Cap) (q : Retyping) (k : ℕ) : Type 0 where
 pub window_placed : (n : Cap) (q : Retyping) (k : ℕ) → window_in edition32 n q ≡ Ok k → Placed n q k
 unfolding window_in
 window_placed n q k e =
-    let a = through _ _ _ k e in
-    let b = through _ _ _ k a.1 in
-    let c = through _ _ _ k b.1 in
-    let d = through _ _ _ k c.1 in
-    let w = or_none _ _ c.0 in
+    let (node, a) = through _ _ _ k e in
+    let (reached, b) = through _ _ _ k a in
+    let (fair, c) = through _ _ _ k b in
+    let (wide, d) = through _ _ _ k c in
+    let w = or_none _ _ fair in
     let some : q.window ≡ 0 → ⊥ = eqb-false _ 0 w.0 in
     record {
-      node = not-false _ a.0;
-      first = sym (same _ _ d.1);
+      node = not-false _ node;
+      first = cc;
       least = omega arith;
       most = ltb-false 256 q.window w.1;
-      fits = omega (arith, leb-false (slots n) q.offset b.0, ltb-false (slots n - q.offset) q.window d.0);
+      fits = omega (arith, leb-false (slots n) q.offset reached, ltb-false (slots n - q.offset) q.window wide);
     }
 
 -- a CNode that a place names is usable
-pub node_usable : (t : List ℕ) (p : Place) (n : Cap) → Ready t → (is_cnode p.root ≡ true → Usable t p.root) → Ok n ≡ node_by edition32 (cap_of t) p → is_cnode n ≡ true → Usable t n
+pub node_usable : (t : List ℕ) (p : Place) (n : Cap) → Ready t → (is_cnode p.root ≡ true → Usable t p.root)
+    → ◌≡◌ {A = Check Cap} (Ok n) (node_by edition32 (cap_of t) p) → is_cnode n ≡ true → Usable t n
 unfolding node_by ◌>>=◌
-node_usable t p n ready usable e = go (eqb p.depth 0) e
+node_usable t p n ready usable = go (eqb p.depth 0) (slot_of edition32 p.source (lookup edition32 (cap_of t) p.root p.index p.depth))
   where
-    named : (s : Check ℕ) → Ok n ≡ (s >>= λ k. Ok (cap_of t k)) → is_cnode n ≡ true → Usable t n
-    named (Ok k) h = let same : n ≡ cap_of t k = cc in rw same (ready.nodes k)
-    named (Err a) h = absurd (never a n (sym h))
-
-    go : (b : Bool) → Ok n ≡ elim b [ true ↦ Ok p.root | false ↦ slot_of edition32 p.source (lookup edition32 (cap_of t) p.root p.index p.depth) >>= λ k. Ok (cap_of t k) ] → is_cnode n ≡ true → Usable t n
-    go true h = let same : n ≡ p.root = cc in rw same usable
-    go false h = named (slot_of edition32 p.source (lookup edition32 (cap_of t) p.root p.index p.depth)) h
-
--- the slots of a CNode that is usable are few
-pub node_room : (t : List ℕ) (n : Cap) → Ready t → (is_cnode n ≡ true → Usable t n) → is_cnode n ≡ true → first_row edition32 n + slots n ≤ most_rows
-node_room t n ready usable node = omega (arith, ready.small, (usable node).inside)
+    go : (b : Bool) (s : Check ℕ) → ◌≡◌ {A = Check Cap} (Ok n) (elim b [ true ↦ Ok p.root | false ↦ s >>= λ k. Ok (cap_of t k) ]) → is_cnode n ≡ true → Usable t n
+    go true s h = let same : n ≡ p.root = cc in rw same usable
+    go false (Ok k) h = let same : n ≡ cap_of t k = cc in rw same (ready.nodes k)
+    go false (Err a) h = absurd (never a n (sym h))
 
 -- the window lies in the table
-pub window_inside : (t : List ℕ) (n : Cap) (q : Retyping) (k : ℕ) → (is_cnode n ≡ true → Usable t n) → Ok k ≡ window_in edition32 n q → (k + q.window) * 8 ≤ length t
+pub window_inside : (t : List ℕ) (n : Cap) (q : Retyping) (k : ℕ) → (is_cnode n ≡ true → Usable t n) → ◌≡◌ {A = Check ℕ} (Ok k) (window_in edition32 n q) → (k + q.window) * 8 ≤ length t
 window_inside t n q k usable e =
     let w = window_placed n q k (sym e) in
     omega (arith, (usable w.node).inside, w.first, w.fits)

@@ -9,7 +9,7 @@ use Rattle.model.specs.Edition.{edition32}
 use Rattle.model.specs.declared.Cap.{Cap}
 use Rattle.model.specs.declared.Retyping.{Retyping}
 use Rattle.model.specs.Cap.{is_cnode}
-use Rattle.model.specs.Check.{◌>>=◌}
+use Rattle.model.specs.Check.{Check, ◌>>=◌}
 use Rattle.model.specs.Tables.{Tables, cap_of, read}
 use Rattle.model.specs.Tree.{Forest, cap_at}
 use Rattle.model.specs.Operations.{start, allot, retype}
@@ -21,7 +21,7 @@ use Rattle.lookup.specs.Ready.{Ready, Usable}
 use Rattle.lookup.proofs.WellFormed.{ready}
 use Rattle.retype.specs.Allotting.{Retypable, Vacant, allotting}
 use Rattle.retype.specs.Window.{Known, sized, window_in, taken_by, vacant_in, first_slot}
-use Rattle.retype.proofs.Passed.{through, bound, then_passed, same, window_placed, window_inside, node_usable}
+use Rattle.retype.proofs.Passed.{through, bound, then_passed, window_placed, window_inside, node_usable}
 use Rattle.retype.proofs.Whole.{retype_by}
 
 sized_known : (object size : ℕ) → sized edition32 object size ≡ Ok tt → Known object size
@@ -35,14 +35,14 @@ module _ (t : Tables) (k : ℕ) (q : Retyping) (asked : Retypable t k q) where
   pub tables_ready : Ready t.table
   tables_ready = ready t asked.formed
 
-  pub first_vacant : (first : ℕ) → Ok first ≡ first_slot edition32 (cap_of t.table) q → Vacant t k q first
+  pub first_vacant : (first : ℕ) → ◌≡◌ {A = Check ℕ} (Ok first) (first_slot edition32 (cap_of t.table) q) → Vacant t k q first
   unfolding first_slot vacant_in
   first_vacant first e =
       let (_, s, a) = then_passed _ _ first (sym e) in
       let (n, node, b) = bound _ _ first a in
       let (j, window, c) = bound _ _ first b in
-      let d = through _ _ _ first c in
-      let is : j ≡ first = same _ _ d.1 in
+      let (free, d) = through _ _ _ first c in
+      let is : j ≡ first = cc in
       let w : window_in edition32 n q ≡ Ok first = window ∙ ap Ok is in
       let usable : (is_cnode n ≡ true → Usable t.table n) = node_usable t.table q.into n tables_ready asked.usable (sym node) in
       record {
@@ -52,7 +52,7 @@ module _ (t : Tables) (k : ℕ) (q : Retyping) (asked : Retypable t k q) where
         known = sized_known q.object q.size s;
         some = (window_placed n q first w).least;
         rows = window_inside t.table n q first usable (sym w);
-        free = subst (λ (i : ℕ). taken_by (cap_of t.table) i q.window ≡ false) is d.0;
+        free = subst (λ (i : ℕ). taken_by (cap_of t.table) i q.window ≡ false) is free;
       }
 
   forest : Forest
@@ -64,10 +64,10 @@ module _ (t : Tables) (k : ℕ) (q : Retyping) (asked : Retypable t k q) where
       retype_by edition32 forest k q
       ∙ ap (λ (c : ℕ → Cap). first_slot edition32 c q >>= allot edition32 k (cap_at forest k) (start forest k (cap_at forest k)) q) (sym (caps_read edition32 roomy32 t asked.formed))
 
-  pub retype_refused : (a : Refusal) → Err a ≡ first_slot edition32 (cap_of t.table) q → record { answer = Err a; tables = t } ≡ carried_out edition32 t (λ f. retype edition32 f k q)
+  pub retype_refused : (a : Refusal) → ◌≡◌ {A = Check ℕ} (Err a) (first_slot edition32 (cap_of t.table) q) → record { answer = Err a; tables = t } ≡ carried_out edition32 t (λ f. retype edition32 f k q)
   unfolding forest ◌>>=◌
   retype_refused a e = comes_refused edition32 t (λ f. retype edition32 f k q) a (by_words ∙ rw (sym e))
 
-  pub retype_allotted : (first : ℕ) → Ok first ≡ first_slot edition32 (cap_of t.table) q → (o : Outcome) → o ≡ carried_out edition32 t (allotting k first q) → o ≡ carried_out edition32 t (λ f. retype edition32 f k q)
+  pub retype_allotted : (first : ℕ) → ◌≡◌ {A = Check ℕ} (Ok first) (first_slot edition32 (cap_of t.table) q) → (o : Outcome) → o ≡ carried_out edition32 t (allotting k first q) → o ≡ carried_out edition32 t (λ f. retype edition32 f k q)
   unfolding forest ◌>>=◌
   retype_allotted first e o h = h ∙ comes_same edition32 t (allotting k first q) (λ f. retype edition32 f k q) (sym (by_words ∙ rw (sym e)))

@@ -1,4 +1,5 @@
 -- Retype is its tests up to the first slot, then the allotment.
+use Rattle.std.specs.Prelude.{Ok, Err}
 use Prim.Native.Nat.{ℕ, zero, suc, ◌+◌}
 use mathlib.Core.Path.{◌≡◌, refl, ap}
 use mathlib.Core.Bool.{Bool, not, ◌||◌}
@@ -6,11 +7,17 @@ use Rattle.model.specs.Edition.{Edition}
 use Rattle.model.specs.declared.Place.{Place}
 use Rattle.model.specs.declared.Retyping.{Retyping}
 use Rattle.model.specs.Cap.{is_empty}
-use Rattle.model.specs.Check.{◌>>=◌}
+use Rattle.model.specs.Check.{Check, ◌>>=◌, ◌>>◌}
 use Rattle.model.specs.Tree.{Forest, cap_at}
 use Rattle.model.specs.Operations.{find, node, any_taken, start, allot, retype}
 use Rattle.retype.specs.Window.{sized, node_by, window_in, taken_by, vacant_in, first_slot}
-use Rattle.retype.proofs.Tests.{then_bind, then_then, bind_bind, passed_bind}
+use Rattle.model.proofs.Outcome.{bind_bind, then_bind}
+use Rattle.retype.proofs.Steps.{bind_ok}
+
+then_then : {A B C : Type 0} (c : Check A) (d : Check B) (e : Check C) → ((c >> d) >> e) ≡ (c >> (d >> e))
+unfolding ◌>>◌
+then_then (Ok a) d e = refl
+then_then (Err r) d e = refl
 
 -- a row is taken in the tree where it is in the table
 pub taken_by_lem : (f : Forest) (k n : ℕ) → any_taken f k n ≡ taken_by (cap_at f) k n
@@ -24,4 +31,4 @@ node_by_lem E f p = refl
 
 pub retype_by : (E : Edition) (f : Forest) (k : ℕ) (q : Retyping) → retype E f k q ≡ (first_slot E (cap_at f) q >>= allot E k (cap_at f k) (start f k (cap_at f k)) q)
 unfolding retype first_slot sized vacant_in window_in
-retype_by E f k q = simp (then_bind, then_then, bind_bind, passed_bind, node_by_lem, taken_by_lem)
+retype_by E f k q = simp (then_bind, then_then, bind_bind, bind_ok, node_by_lem, taken_by_lem)

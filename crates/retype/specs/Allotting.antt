@@ -1,6 +1,5 @@
 -- The test of an Untyped's memory, and what the tests before it have shown.
-use Rattle.std.specs.Prelude.{Ok}
-use Rattle.std.specs.Prelude.{ℕ, ◌+◌, ◌-◌, ◌*◌, ◌/◌, ◌^◌, ◌≤◌, ◌≡◌, true, false, ltb, length}
+use Rattle.std.specs.Prelude.{Ok, ℕ, ◌+◌, ◌-◌, ◌*◌, ◌/◌, ◌^◌, ◌≤◌, ◌≡◌, true, false, ltb, length}
 use Rattle.model.specs.declared.Refusal.TheVariants.{NotEnoughMemory}
 use Rattle.model.specs.declared.Cap.{Cap}
 use Rattle.model.specs.declared.Retyping.{Retyping}

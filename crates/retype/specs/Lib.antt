@@ -1,4 +1,3 @@
 pub mod Window
-pub mod Answers
 pub mod Laid
 pub mod Allotting

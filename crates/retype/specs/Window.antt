@@ -1,6 +1,5 @@
 -- Retype's tests up to the first slot of its window, where `caps` gives the capability in each row.
-use Rattle.std.specs.Prelude.{Ok}
-use Rattle.std.specs.Prelude.{ℕ, zero, suc, ◌+◌, ◌-◌, ◌≤◌, Bool, true, false, not, ◌||◌, leb, ltb, eqb}
+use Rattle.std.specs.Prelude.{Ok, ℕ, zero, suc, ◌+◌, ◌-◌, ◌≤◌, Bool, true, false, not, ◌||◌, leb, ltb, eqb}
 use Rattle.model.specs.declared.Refusal.TheVariants.{InvalidArgument, RangeError, FailedLookup, DeleteFirst}
 use Rattle.model.specs.declared.Cap.{Cap}
 use Rattle.model.specs.declared.Failure.TheVariants.{Missing}

@@ -8,9 +8,10 @@ use crate::object::new_cap;
 use model::{Address, Retyping, Row, exponent};
 use table::size::pow2;
 use table::stores::{link, put};
-use table::word;
+use table::{Column, word};
 
 // The window's new capabilities, in rows from `first`, for objects in a row from `address`, listed after one row and before `next`.
+#[tactic(auto, using(crate::proofs::Sizes::exponent_small))]
 pub fn link_new(
     t: &mut [u32],
     after: Row,
@@ -25,31 +26,27 @@ pub fn link_new(
 {
     let unit = pow2(exponent(q.object, q.size) as u32);
     let mut last = after.0;
-    let mut k = first.0;
-    let mut at = address.0 as u64;
-    let mut left = q.window;
-    while 0 < left {
-        let byte = at as u32;
-        let c = new_cap(q.object, q.size, Address(byte));
-        link(t, Row(last), next, Row(k), c, depth);
+    let mut at = u64::from(address.0);
+    for k in first.0..first.0 + q.window {
+        let c = new_cap(q.object, q.size, Address(at as u32));
+        link(t, last, next, Row(k), c, depth);
         last = k;
-        k += 1;
         at += unit;
-        left -= 1;
     }
 }
 
 // The window's objects made from byte `at` of the Untyped in a row: its watermark at their end, their capabilities straight after it.
+#[tactic(auto, using(crate::proofs::Sizes::exponent_small))]
 pub fn lay_out(t: &mut [u32], control: &mut [u32; 4], row: Row, q: Retyping, first: Row, at: u32)
     requires { Layable (lent t.old control.old) row.0 first.0 at q }
     ensures { lent t.new control.new ≡ laid_out (lent t.old control.old) row.0 first.0 at q }
 {
-    let base = word(t, row, 1) + at;
-    let next = word(t, row, 5);
-    let depth = word(t, row, 7) + 1;
+    let base = word(t, row, Column::Address) + at;
+    let next = word(t, row, Column::Next);
+    let depth = word(t, row, Column::Depth) + 1;
     let e = exponent(q.object, q.size) as u32;
-    let end = at as u64 + ((q.window as u64) << e);
-    put(t, row, 3, end as u32);
+    let end = u64::from(at) + (u64::from(q.window) << e);
+    put(t, row, Column::Third, end as u32);
     link_new(t, row, next, depth, q, first, Address(base));
-    control[3] = q.window + control[3];
+    control[3] += q.window;
 }

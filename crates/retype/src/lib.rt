@@ -14,8 +14,7 @@ ghost use Rattle.model.specs.Tables.{lent};
 ghost use Rattle.retype.specs.Allotting.{Retypable, Vacant, allotting};
 
 use laying::lay_out;
-use lookup::Found;
-use memory::{Memory, memory_for, start};
+use memory::{memory_for, start};
 use model::{Answer, Retyping, Row};
 use place::first_slot;
 use table::cap_at;
@@ -27,14 +26,9 @@ pub fn allot(t: &mut [u32], control: &mut [u32; 4], row: Row, q: Retyping, first
 {
     let u = cap_at(t, row);
     let from = start(t, row, u);
-    let memory = memory_for(u, from, q);
-    match memory {
-        Memory::Refused(a) => a,
-        Memory::From(at) => {
-            lay_out(t, control, row, q, first, at);
-            Answer::Success { count: q.window }
-        }
-    }
+    let at = memory_for(u, from, q)?;
+    lay_out(t, control, row, q, first, at);
+    Ok(q.window)
 }
 
 // Retype, of the Untyped in a row.
@@ -42,9 +36,6 @@ pub fn retype(t: &mut [u32], control: &mut [u32; 4], row: Row, q: Retyping) -> A
     requires { Retypable (lent t.old control.old) row.0 q }
     ensures { record { answer = result; tables = lent t.new control.new } ≡ carried_out edition32 (lent t.old control.old) (λ f. spec.retype edition32 f row.0 q) }
 {
-    let found = first_slot(t, q);
-    match found {
-        Found::Refused(a) => a,
-        Found::At(first) => allot(t, control, row, q, first),
-    }
+    let first = first_slot(t, q)?;
+    allot(t, control, row, q, first)
 }

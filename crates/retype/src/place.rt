@@ -3,39 +3,28 @@ ghost use Rattle.std.specs.Prelude.{◌≡◌, true, ◌+◌, ◌*◌, ◌≤◌
 ghost use Rattle.model.specs.Edition.{edition32, most_rows};
 ghost use Rattle.model.specs.Cap as cap;
 ghost use Rattle.model.specs.Tables as tables;
-ghost use Rattle.lookup.specs.Finds.{of_found};
+ghost use Rattle.lookup.specs.Finds.{numbered};
 ghost use Rattle.lookup.specs.Ready.{Ready, Usable};
-ghost use Rattle.retype.specs.Answers.{of_taker};
 ghost use Rattle.retype.specs.Window as tests;
 
-use crate::object::{Judged, sized};
-use lookup::{Found, find};
-use model::{Answer, CNODE, Cap, Failure, Place, Retyping, Row};
+use crate::object::sized;
+use lookup::find;
+use model::{Cap, Failure, Kind, Place, Refusal, Retyping, Row};
 use table::size::slots_of;
-use table::{cap_at, row_of, word};
-
-// What is to take the new capabilities, or what the request is told.
-#[derive(Clone, Copy)]
-pub enum Taker {
-    Is(Cap),
-    Refused(Answer),
-}
+use table::{cap_at, row_of};
 
 // What a place names, at depth 0 its root itself.
-pub fn node(t: &[u32], p: Place) -> Taker
+#[tactic(auto, unfolding(crate::specs::Window::node_by), using(crate::proofs::Steps::steps))]
+pub fn node(t: &[u32], p: Place) -> Result<Cap, Refusal>
     requires ready { Ready t.now }
     requires usable { (cap.is_cnode p.root ≡ true → Usable t.now p.root) }
-    ensures { of_taker result ≡ tests.node_by edition32 (tables.cap_of t.now) p }
+    ensures { result ≡ tests.node_by edition32 (tables.cap_of t.now) p }
 {
     if p.depth == 0 {
-        let root = p.root;
-        return Taker::Is(root);
+        return Ok(p.root);
     }
-    let found = find(t, p);
-    match found {
-        Found::At(row) => Taker::Is(cap_at(t, row)),
-        Found::Refused(a) => Taker::Refused(a),
-    }
+    let row = find(t, p)?;
+    Ok(cap_at(t, row))
 }
 
 // One of the n rows from the first is occupied.
@@ -44,88 +33,66 @@ pub fn any_taken(t: &[u32], first: Row, n: u32) -> bool
     requires inside { (first.0 + n) * 8 ≤ length t.now }
     ensures { result ≡ tests.taken_by (tables.cap_of t.now) first.0 n }
 {
-    let mut k = first.0;
-    let mut left = n;
-    while 0 < left {
-        if word(t, Row(k), 0) != 0 {
-            return true;
-        }
-        k += 1;
-        left -= 1;
-    }
-    false
+    (first.0..first.0 + n).any(|k| !cap_at(t, Row(k)).is(Kind::Empty))
 }
 
 // The first slot of the window in a node.
-pub fn window(n: Cap, q: Retyping) -> Found
+#[tactic(auto, unfolding(crate::specs::Window::window_in, model::specs::Cap::first_row), using(crate::proofs::Steps::steps))]
+pub fn window(n: Cap, q: Retyping) -> Result<Row, Refusal>
     requires { cap.is_cnode n ≡ true → cap.first_row edition32 n + cap.slots n ≤ most_rows }
-    ensures { of_found result ≡ tests.window_in edition32 n q }
+    ensures { numbered result ≡ tests.window_in edition32 n q }
 {
-    if n.kind != CNODE {
-        let bits = q.into.depth;
-        return Found::Refused(Answer::FailedLookup {
+    if !n.is(Kind::CNode) {
+        return Err(Refusal::FailedLookup {
             source: false,
-            failure: Failure::Missing { bits },
+            failure: Failure::Missing { bits: q.into.depth },
         });
     }
     let slots = slots_of(n) as u32;
     if slots <= q.offset {
-        let last = slots - 1;
-        return Found::Refused(Answer::RangeError {
+        return Err(Refusal::RangeError {
             least: 0,
-            greatest: last,
+            greatest: slots - 1,
         });
     }
-    if q.window == 0 || 256 < q.window {
-        return Found::Refused(Answer::RangeError {
+    if !(1..=256).contains(&q.window) {
+        return Err(Refusal::RangeError {
             least: 1,
             greatest: 256,
         });
     }
     let room = slots - q.offset;
     if room < q.window {
-        return Found::Refused(Answer::RangeError {
+        return Err(Refusal::RangeError {
             least: 1,
             greatest: room,
         });
     }
-    let first = row_of(n.address);
-    let row = first.0 + q.offset;
-    Found::At(Row(row))
+    Ok(Row(row_of(n.address).0 + q.offset))
 }
 
 // The first slot of the window in a node, if all its slots are empty.
-pub fn vacant_window(t: &[u32], n: Cap, q: Retyping) -> Found
+#[tactic(auto, unfolding(crate::specs::Window::vacant_in), using(crate::proofs::Steps::steps))]
+pub fn vacant_window(t: &[u32], n: Cap, q: Retyping) -> Result<Row, Refusal>
     requires ready { Ready t.now }
     requires usable { (cap.is_cnode n ≡ true → Usable t.now n) }
-    ensures { of_found result ≡ tests.vacant_in edition32 (tables.cap_of t.now) n q }
+    ensures { numbered result ≡ tests.vacant_in edition32 (tables.cap_of t.now) n q }
 {
-    let found = window(n, q);
-    match found {
-        Found::Refused(a) => Found::Refused(a),
-        Found::At(first) => {
-            if any_taken(t, first, q.window) {
-                return Found::Refused(Answer::DeleteFirst);
-            }
-            Found::At(first)
-        }
+    let first = window(n, q)?;
+    if any_taken(t, first, q.window) {
+        return Err(Refusal::DeleteFirst);
     }
+    Ok(first)
 }
 
 // All tests but that of the memory, and the first slot of the window.
-pub fn first_slot(t: &[u32], q: Retyping) -> Found
+#[tactic(auto, unfolding(crate::specs::Window::first_slot), using(crate::proofs::Steps::steps))]
+pub fn first_slot(t: &[u32], q: Retyping) -> Result<Row, Refusal>
     requires ready { Ready t.now }
     requires usable { (cap.is_cnode q.into.root ≡ true → Usable t.now q.into.root) }
-    ensures { of_found result ≡ tests.first_slot edition32 (tables.cap_of t.now) q }
+    ensures { numbered result ≡ tests.first_slot edition32 (tables.cap_of t.now) q }
 {
-    let judged = sized(q.object, q.size);
-    if let Judged::Barred(a) = judged {
-        return Found::Refused(a);
-    }
-    let into = q.into;
-    let taker = node(t, into);
-    match taker {
-        Taker::Refused(a) => Found::Refused(a),
-        Taker::Is(n) => vacant_window(t, n, q),
-    }
+    sized(q.object, q.size)?;
+    let n = node(t, q.into)?;
+    vacant_window(t, n, q)
 }

@@ -1,0 +1,33 @@
+-- A check that goes on and one that stops, as rewrites: with these and its definition named at a function, each way out of it is found.
+use Rattle.std.specs.Prelude.{Ok, Err}
+use mathlib.Core.Path.{◌≡◌, refl}
+use mathlib.Core.Bool.{Bool, true, false}
+use borrow.Author.Tests.{tests}
+use Rattle.model.specs.declared.Refusal.{Refusal}
+use Rattle.model.specs.Check.{Check, refuse, ◌>>=◌, ◌>>◌}
+
+pub bind_ok : {A B : Type 0} (a : A) (f : A → Check B) → (Ok a >>= f) ≡ f a
+unfolding ◌>>=◌
+bind_ok a f = refl
+
+pub bind_err : {A B : Type 0} (r : Refusal) (f : A → Check B) → (Err r >>= f) ≡ Err r
+unfolding ◌>>=◌
+bind_err r f = refl
+
+pub then_ok : {A : Type 0} (u : Unit {0}) (c : Check A) → (Ok u >> c) ≡ c
+unfolding ◌>>◌
+then_ok u c = refl
+
+pub then_err : {A : Type 0} (r : Refusal) (c : Check A) → ◌>>◌ {A = Unit {0}} (Err r) c ≡ Err r
+unfolding ◌>>◌
+then_err r c = refl
+
+pub stop : (r : Refusal) (b : Bool) → b ≡ true → refuse r b ≡ Err r
+unfolding refuse
+stop r b h = rw h
+
+pub pass : (r : Refusal) (b : Bool) → b ≡ false → refuse r b ≡ Ok tt
+unfolding refuse
+pass r b h = rw h
+
+pub ruleset steps = (bind_ok, bind_err, then_ok, then_err, stop, pass, tests)
