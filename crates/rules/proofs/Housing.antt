@@ -58,3 +58,5 @@ module _ (E : Edition) (m : ℕ) (t o : List ℕ) where
     pub other_home : (n : ℕ) → k < n → get_or o k 0 < rows E m → (word t (get_or o k 0) 0 ≡ 5 → ⊥) → homes E m t o n ≡ false
     unfolding home is_empty is_cnode cap_of
     other_home n i l e = homes_stop n k i (rw (ne_eqb (word t k 0) 0 filled, lt-ltb (get_or o k 0) (rows E m) l, ne_eqb (word t (get_or o k 0) 0) 5 e))
+
+pub ruleset housing = (none_homes, empty_home, node_home, no_home, other_home)

@@ -1,4 +1,4 @@
--- The loop keeps `Underway`: the walk of the entries left is the walk of all, which is judged as the rule. The measure is the entries left.
+-- The loop keeps `Underway`: the walk of the entries left is the walk of all, which is judged as the rule.
 use lib.ListN.{replicate}
 use Rattle.model.specs.Edition.{edition32, most_rows}
 use Rattle.model.specs.Tables.{follow}
@@ -6,8 +6,5 @@ use Rattle.rules.specs.Owners.{walk}
 use Rattle.rules.proofs.Stepping.{Underway}
 use Rattle.rules.proofs.forest_allowed.Given as goal
 
-abbrev pub invariant-loop-left : goal.invariant-loop-left
-invariant-loop-left l = Underway l.m l.count l.t (walk edition32 l.m l.t (replicate most_rows 0) (replicate most_rows 4294967295) (follow edition32 l.t l.count l.head)) l.above l.owner l.k l.left
-
-abbrev pub decreases-loop-left : goal.decreases-loop-left
-decreases-loop-left l = l.left
+abbrev pub invariant-loop : goal.invariant-loop
+invariant-loop l = Underway l.m l.count l.t (walk edition32 l.m l.t (replicate most_rows 0) (replicate most_rows 4294967295) (follow edition32 l.t l.count l.head)) l.above l.owner l.k l.counter

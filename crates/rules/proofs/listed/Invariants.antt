@@ -1,11 +1,11 @@
--- The loop keeps `Following`: the rows left are listed exactly if all are. The measure is the rows left.
+-- The rows left are listed exactly if all are, and the depth grows by at most 1 a row.
+use Rattle.std.proofs.Common.{◌≡◌, ◌-◌, ◌≤◌}
 use Rattle.model.specs.Edition.{edition32}
 use Rattle.model.specs.Rules.{listed}
-use Rattle.rules.proofs.Links.{Following}
 use Rattle.rules.proofs.listed.Given as goal
 
-abbrev pub invariant-loop-left : goal.invariant-loop-left
-invariant-loop-left l = Following edition32 l.m l.t (listed edition32 l.m l.t l.count 4294967295 0 l.head) l.count l.left l.before l.most l.k
-
-abbrev pub decreases-loop-left : goal.decreases-loop-left
-decreases-loop-left l = l.left
+abbrev pub invariant-loop : goal.invariant-loop
+invariant-loop l = record {
+  verdict : listed edition32 l.m l.t (l.count - l.counter) l.before l.most l.k ≡ listed edition32 l.m l.t l.count 4294967295 0 l.head;
+  shallow : l.most ≤ l.counter;
+}

@@ -1,14 +1,18 @@
--- The cells from cell i on are owned exactly if all are. The measure is the cells left.
-use mathlib.Core.Path.{sym, ◌∙◌}
-use native.Mathlib.Omega.{arith}
-use Rattle.rules.proofs.Marks.{owned_on, owned_stop, owned_done}
+-- `all` over the cells is the definition's recursion over them.
+use Rattle.std.proofs.Common.{arith, rules, tests, eqb, ◌∙◌, ◌+◌, refl}
+use Rattle.std.specs.List.{between}
+use Rattle.std.proofs.lemmas.Iterator.{YieldsList-from_slice}
+use Rattle.std.proofs.lemmas.Iterator.Search.{all_from_yields_List}
+use Rattle.rules.specs.Owners.{owned_by}
+use Rattle.rules_row.proofs.Runs.{all_between}
 use Rattle.rules.proofs.owned_by.Goals as goal
 
-pub returns-then-owner-first : goal.returns-then-owner-first
-returns-then-owner-first c = sym (owned_stop _ _ _ _ c.loop-i-test.true _ c.if-owner-first.true) ∙ c.loop-i.invariant.1
-
-pub loop-i-preserved : goal.loop-i-preserved
-loop-i-preserved c = (omega (arith, c.loop-i-test.true), sym (owned_on _ _ _ _ c.loop-i-test.true _ c.if-owner-first.false) ∙ c.loop-i.invariant.1)
-
 pub returns : goal.returns
-returns c = sym (owned_done _ _ _ _ c.loop-i-test.false _) ∙ c.loop-i.invariant.1
+unfolding owned_by
+returns c =
+    let o = c.args.owner.now in
+    let first = c.args.first in
+    let n = c.args.n in
+    let up = c.args.up in
+    all_from_yields_List (λ by. eqb by up) _ _ _ c.all.ensures.ran (YieldsList-from_slice (between first (first + n) o) cc) (λ x b q k. search (rules, tests))
+    ∙ all_between (λ by. eqb by up) o (λ i n. owned_by o i n up) (λ _. refl) (λ _ _. refl) first n (omega arith)
