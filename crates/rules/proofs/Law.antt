@@ -1,5 +1,5 @@
 -- What the check of rows against rows computes is the rule on the tree that is read.
-use Prim.Native.Nat.{ℕ, zero, suc, ◌≤◌, ◌<◌}
+use Prim.Native.Nat.{ℕ, ◌≤◌, ◌<◌}
 use mathlib.Core.Path.{◌≡◌, refl, sym, ap, ◌∙◌, subst}
 use mathlib.Core.Bool.{Bool, true, false, not, ◌&&◌}
 use mathlib.Core.List.Memᴰ
@@ -7,6 +7,7 @@ use mathlib.Core.List.{List, []}
 use native.Mathlib.Omega.{arith}
 use lib.ListN.{get_or, length, replicate, length-replicate, get_or-replicate}
 use borrow.Author.Tests.{eq-eqb, eqb-true}
+use Rattle.std.proofs.lemmas.Bool.Decides.{nat_tests}
 use Rattle.model.specs.declared.Cap.{Cap}
 use Rattle.model.specs.Lists.{all_true, all, count}
 use Rattle.model.specs.Edition.{Edition, edition32, most_rows}
@@ -14,7 +15,8 @@ use Rattle.model.specs.Cap.{is_empty, is_untyped}
 use Rattle.model.specs.Tree.{Forest, end, tree, entries, roots}
 use Rattle.model.specs.Tables.{rows, cap_of, follow, grown}
 use Rattle.model.specs.Rules.{rows_allowed, occupied, inside_below, housed, pairwise, children_allowed, families_allowed, forest_allowed}
-use Rattle.model.proofs.Booleans.{either, and_intro}
+use Rattle.model.proofs.Distinct.{count_most}
+use Rattle.model.proofs.Booleans.{and_intro}
 use Rattle.model.proofs.Kept.Figures.{Sane, sane32}
 use Rattle.model.proofs.Kept.Objects.{parts_inside}
 use Rattle.model.proofs.Kept.Allowed.{limit_of}
@@ -23,7 +25,7 @@ use Rattle.model.proofs.Words.Chain.{Chain, chain}
 use Rattle.model.proofs.Words.WellFormed.{roomy32}
 use Rattle.model.proofs.Words.Bounds.{m_least, rows_most}
 use Rattle.rules.specs.Owners.{memory, cap_up, row_above, walk, judged}
-use Rattle.rules.specs.Checked.{Checked}
+use Rattle.rules.specs.Checked.{Scanned, Checked}
 use Rattle.rules.proofs.Cells.{Covers, Celled}
 use Rattle.rules.proofs.Outcome.{Outcome, keeps, breaks}
 use Rattle.rules.proofs.Held.{level, Ready, free}
@@ -34,11 +36,6 @@ use Rattle.rules.proofs.Kin.{kin, kin_children, family_is}
 use Rattle.rules.proofs.Preorder.{preorder}
 use Rattle.rules.proofs.Homes.{homes_housed}
 use Rattle.rules.proofs.Reading.{placed_each, placed, shallow, all_listed}
-
-pub count_le : (p : ℕ → Bool) (n : ℕ) → count p n ≤ n
-unfolding count
-count_le p zero = omega arith
-count_le p (suc n) = let ih = count_le p n in either (p n) (λ t. rw t (omega arith)) (λ f. rw f (omega arith))
 
 -- ---- all of memory
 
@@ -75,24 +72,17 @@ module _ (E : Edition) (m : ℕ) (t : List ℕ) where
       ∙ ap (λ (b : Bool). b && families_allowed E f) (kin_children E (memory m) (roots f) ∙ top)
 
 forest_tests : (h f p : Bool) → (p && f) ≡ true → h ≡ (h && (f && (p && true)))
-forest_tests true true true e = refl
-forest_tests true true false e = sym e
-forest_tests true false true e = sym e
-forest_tests true false false e = sym e
-forest_tests false f p e = refl
+forest_tests h f p e = grind (arith, nat_tests)
 
 forest_fails : (h f p : Bool) → (p && f) ≡ false → false ≡ (h && (f && (p && true)))
-forest_fails true true true e = sym e
-forest_fails true true false e = refl
-forest_fails true false p e = refl
-forest_fails false f p e = refl
+forest_fails h f p e = grind (arith, nat_tests)
 
 -- ---- the law
 
 module _ {E : Edition} (sane : Sane E) (sixteen : E.slot ≡ 4) (m : ℕ) (t : List ℕ) (n head : ℕ) (least : 4 ≤ m) (room : rows E m ≤ E.none) (allowed : rows_allowed E m t (rows E m) ≡ true)
     (counted : n ≡ count (λ k. not (is_empty (cap_of t k))) (rows E m)) (chained : Chain E m t n E.none 0 head (follow E t n head)) (size : ℕ) (fits : rows E m ≤ size) where
   few : n ≤ rows E m
-  few = omega (arith, counted, count_le (λ k. not (is_empty (cap_of t k))) (rows E m))
+  few = omega (arith, counted, count_most (λ k. not (is_empty (cap_of t k))) (rows E m))
 
   forest : Forest
   forest = grown 0 (follow E t n head)
@@ -150,11 +140,10 @@ module _ {E : Edition} (sane : Sane E) (sixteen : E.slot ≡ 4) (m : ℕ) (t : L
 
 -- ---- at 32 bits
 
-pub forest_judged : (m head n : ℕ) (t above : List ℕ) → Checked edition32 m head n t → most_rows ≤ length above
+pub forest_judged : (m head n : ℕ) (t above : List ℕ) → Scanned edition32 m t → Checked edition32 m head n t → most_rows ≤ length above
     → judged edition32 m t (walk edition32 m t above (replicate most_rows 4294967295) (follow edition32 t n head)) ≡ forest_allowed edition32 (grown 0 (follow edition32 t n head))
 unfolding occupied
-forest_judged m head n t above c h =
-    let s = c.counts.scanned in
+forest_judged m head n t above s c h =
     let room = roomy32.room m s.m_range in
-    walk_judged sane32 refl m t n head (omega (arith, m_least m s.m_range)) room s.each (eqb-true n (occupied t (rows edition32 m)) c.counts.counted)
+    walk_judged sane32 refl m t n head (omega (arith, m_least m s.m_range)) room s.each (eqb-true n (occupied t (rows edition32 m)) c.counted)
     (chain edition32 m t n edition32.none 0 head room c.chain) most_rows (rows_most m s.m_range) above (omega (arith, rows_most m s.m_range))

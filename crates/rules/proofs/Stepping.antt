@@ -13,11 +13,11 @@ use Rattle.model.specs.Edition.{Edition, edition32, most_rows}
 use Rattle.model.specs.Cap.{is_empty}
 use Rattle.model.specs.Tables.{rows, word, cap_of, follow}
 use Rattle.model.specs.Rules.{m_in_range, link_allowed, listed, occupied}
+use Rattle.model.proofs.Distinct.{count_most}
 use Rattle.model.proofs.Booleans.{either, and_left, and_right, part}
 use Rattle.model.proofs.Words.Bounds.{rows_most}
 use Rattle.rules.specs.Owners.{Owners, broken, owners, kept, go_on, enter, row_above, walk, homes, judged}
-use Rattle.rules.specs.Checked.{Checked}
-use Rattle.rules.proofs.Law.{count_le}
+use Rattle.rules.specs.Checked.{Scanned, Checked}
 use Rattle.rules.proofs.Links.{list_on, link_inside, link_depth}
 
 -- ---- the walk
@@ -58,10 +58,10 @@ pub record Underway (m count : ℕ) (t : List ℕ) (whole : Owners) (above o : L
   pub shallow : most ≤ i
   pub in_rows : (j : ℕ) → get_or above j 0 < rows edition32 m
 
-pub few : (m head n : ℕ) (t : List ℕ) → Checked edition32 m head n t → n ≤ most_rows
+pub few : (m head n : ℕ) (t : List ℕ) → Scanned edition32 m t → Checked edition32 m head n t → n ≤ most_rows
 unfolding occupied
-few m head n t c =
-    omega (arith, eqb-true n (occupied t (rows edition32 m)) c.counts.counted, count_le (λ k. not (is_empty (cap_of t k))) (rows edition32 m), rows_most m c.counts.scanned.m_range)
+few m head n t s c =
+    omega (arith, eqb-true n (occupied t (rows edition32 m)) c.counted, count_most (λ k. not (is_empty (cap_of t k))) (rows edition32 m), rows_most m s.m_range)
 
 module _ {m count : ℕ} {t : List ℕ} {whole : Owners} {above o : List ℕ} {k i : ℕ} (at : Underway m count t whole above o k i) (some : i < count) where
   first : (link_allowed edition32 m t at.before at.most k && listed edition32 m t (count - (i + 1)) k (word t k 7 + 1) (word t k 5)) ≡ true
@@ -137,5 +137,3 @@ pub ends : {m count : ℕ} {t : List ℕ} {whole : Owners} {above o : List ℕ} 
     → homes edition32 m t o (rows edition32 m) ≡ rule
 unfolding judged
 ends {m} {count} {t} {whole} {above} {o} {k} {i} at h rule j = ap (judged edition32 m t) (sym (walk_ends edition32 m t above o count i k h) ∙ at.rest) ∙ j
-
-pub ruleset walking = (few, row_below, row_filled, row_shallow, row_up, begins)

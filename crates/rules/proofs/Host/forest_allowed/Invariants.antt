@@ -4,7 +4,7 @@ use Rattle.model.specs.Edition.{edition32, most_rows}
 use Rattle.model.specs.Tables.{follow}
 use Rattle.rules.specs.Owners.{walk}
 use Rattle.rules.proofs.Stepping.{Underway}
-use Rattle.rules.proofs.forest_allowed.Given as goal
+use Rattle.rules.proofs.Host.forest_allowed.Given as goal
 
 abbrev pub invariant-loop : goal.invariant-loop
-invariant-loop l = Underway l.m l.count l.t (walk edition32 l.m l.t (replicate most_rows 0) (replicate most_rows 4294967295) (follow edition32 l.t l.count l.head)) l.above l.owner l.k l.counter
+invariant-loop l = Underway l.self.m l.count l.self.table.now (walk edition32 l.self.m l.self.table.now (replicate most_rows 0) (replicate most_rows 4294967295) (follow edition32 l.self.table.now l.count l.head)) l.above l.owner l.k l.counter

@@ -2,10 +2,10 @@
 use Rattle.std.proofs.Common.{◌≡◌, ◌-◌, ◌≤◌}
 use Rattle.model.specs.Edition.{edition32}
 use Rattle.model.specs.Rules.{listed}
-use Rattle.rules.proofs.listed.Given as goal
+use Rattle.rules.proofs.Host.listed.Given as goal
 
 abbrev pub invariant-loop : goal.invariant-loop
 invariant-loop l = record {
-  verdict : listed edition32 l.m l.t (l.count - l.counter) l.before l.most l.k ≡ listed edition32 l.m l.t l.count 4294967295 0 l.head;
+  verdict : listed edition32 l.self.m l.self.table.now (l.count - l.counter) l.before l.most l.k ≡ listed edition32 l.self.m l.self.table.now l.count 4294967295 0 l.head;
   shallow : l.most ≤ l.counter;
 }
