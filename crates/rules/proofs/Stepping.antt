@@ -16,14 +16,15 @@ use Rattle.model.specs.Rules.{m_in_range, link_allowed, listed, occupied}
 use Rattle.model.proofs.Distinct.{count_most}
 use Rattle.model.proofs.Booleans.{either, and_left, and_right, part}
 use Rattle.model.proofs.Words.Bounds.{rows_most}
-use Rattle.rules.specs.Owners.{Owners, broken, owners, kept, go_on, enter, row_above, walk, homes, judged}
+use Rattle.std.proofs.Common.{Option, Some, None, option_and_then}
+use Rattle.rules.specs.Owners.{kept, enter, row_above, walk, homes, judged}
 use Rattle.rules.specs.Checked.{Scanned, Checked}
 use Rattle.rules.proofs.Links.{list_on, link_inside, link_depth}
 
 -- ---- the walk
 
 module _ (E : Edition) (m : ℕ) (t above o : List ℕ) (count i k : ℕ) where
-  pub walk_ends : count ≤ i → walk E m t above o (follow E t (count - i) k) ≡ owners o
+  pub walk_ends : count ≤ i → walk E m t above o (follow E t (count - i) k) ≡ Some o
   unfolding follow walk
   walk_ends h = let none : count - i ≡ zero = omega arith in rw none
 
@@ -33,24 +34,24 @@ module _ (E : Edition) (m : ℕ) (t above o : List ℕ) (count i k : ℕ) where
     follow_on = ap (λ (j : ℕ). follow E t j k) (let more : count - i ≡ suc (count - (i + 1)) = omega arith in more) ∙ rw (ne_eqb k E.none (omega arith), follow)
 
     walk_first : walk E m t above o (follow E t (count - i) k)
-        ≡ go_on (enter E m t (row_above E above (word t k 7)) k o) (λ p. walk E m t (set above (word t k 7) k) p (follow E t (count - (i + 1)) (word t k 5)))
+        ≡ option_and_then (λ p. walk E m t (set above (word t k 7) k) p (follow E t (count - (i + 1)) (word t k 5))) (enter E m t (row_above E above (word t k 7)) k o)
     unfolding walk
     walk_first = ap (walk E m t above o) follow_on
 
     -- the step of the code answers b, and leaves x
     module _ (b : Bool) (x : List ℕ) (step : kept b x ≡ enter E m t (row_above E above (word t k 7)) k o) where
       pub walk_on : b ≡ true → walk E m t above o (follow E t (count - i) k) ≡ walk E m t (set above (word t k 7) k) x (follow E t (count - (i + 1)) (word t k 5))
-      unfolding go_on kept
+      unfolding kept
       walk_on h = let e = rw h at step in walk_first ∙ rw (← e)
 
-      pub walk_stops : b ≡ false → walk E m t above o (follow E t (count - i) k) ≡ broken
-      unfolding go_on kept
+      pub walk_stops : b ≡ false → walk E m t above o (follow E t (count - i) k) ≡ None
+      unfolding kept
       walk_stops h = let e = rw h at step in walk_first ∙ rw (← e)
 
 -- ---- what the loop keeps
 
 -- i entries are walked, and the next is in row k; `whole` is the walk of all
-pub record Underway (m count : ℕ) (t : List ℕ) (whole : Owners) (above o : List ℕ) (k i : ℕ) : Type 0 where
+pub record Underway (m count : ℕ) (t : List ℕ) (whole : Option (List ℕ)) (above o : List ℕ) (k i : ℕ) : Type 0 where
   pub rest : walk edition32 m t above o (follow edition32 t (count - i) k) ≡ whole
   pub before : ℕ
   pub most : ℕ
@@ -63,7 +64,7 @@ unfolding occupied
 few m head n t s c =
     omega (arith, eqb-true n (occupied t (rows edition32 m)) c.counted, count_most (λ k. not (is_empty (cap_of t k))) (rows edition32 m), rows_most m s.m_range)
 
-module _ {m count : ℕ} {t : List ℕ} {whole : Owners} {above o : List ℕ} {k i : ℕ} (at : Underway m count t whole above o k i) (some : i < count) where
+module _ {m count : ℕ} {t : List ℕ} {whole : Option (List ℕ)} {above o : List ℕ} {k i : ℕ} (at : Underway m count t whole above o k i) (some : i < count) where
   first : (link_allowed edition32 m t at.before at.most k && listed edition32 m t (count - (i + 1)) k (word t k 7 + 1) (word t k 5)) ≡ true
   first = sym (list_on edition32 m t count i at.before at.most k some) ∙ at.list
 
@@ -133,7 +134,7 @@ row_up m above up d f e n =
     (λ t. absurd (n (rw t at e)))
     (λ h. let q : up ≡ get_or above (d - 1) 0 = rw h at e in rw q (f (d - 1)))
 
-pub ends : {m count : ℕ} {t : List ℕ} {whole : Owners} {above o : List ℕ} {k i : ℕ} → Underway m count t whole above o k i → count ≤ i → (rule : Bool) → judged edition32 m t whole ≡ rule
+pub ends : {m count : ℕ} {t : List ℕ} {whole : Option (List ℕ)} {above o : List ℕ} {k i : ℕ} → Underway m count t whole above o k i → count ≤ i → (rule : Bool) → judged edition32 m t whole ≡ rule
     → homes edition32 m t o (rows edition32 m) ≡ rule
 unfolding judged
 ends {m} {count} {t} {whole} {above} {o} {k} {i} at h rule j = ap (judged edition32 m t) (sym (walk_ends edition32 m t above o count i k h) ∙ at.rest) ∙ j
