@@ -16,7 +16,7 @@ pub loop-init : goal.loop-init
 loop-init c = begins _ _ _ _ _ c.requires
 
 pub word-depth-requires : goal.word-depth-requires
-word-depth-requires c = (omega arith, omega (arith, row_below c.loop.invariant c.loop-test.true, c.args.self.now.scanned.long))
+word-depth-requires c = omega (arith, row_below c.loop.invariant c.loop-test.true, c.args.self.now.scanned.long)
 
 pub row_above-up-requires : goal.row_above-up-requires
 row_above-up-requires c = omega (arith, row_shallow c.loop.invariant c.loop-test.true, c.word-depth.ensures, few _ _ _ _ c.args.self.now.scanned c.requires)
@@ -34,7 +34,7 @@ pub bounds-above-depth : goal.bounds-above-depth
 bounds-above-depth c = omega (arith, row_shallow c.loop.invariant c.loop-test.true, c.word-depth.ensures, few _ _ _ _ c.args.self.now.scanned c.requires)
 
 pub word-k-requires : goal.word-k-requires
-word-k-requires c = (omega arith, omega (arith, row_below c.loop.invariant c.loop-test.true, c.args.self.now.scanned.long))
+word-k-requires c = omega (arith, row_below c.loop.invariant c.loop-test.true, c.args.self.now.scanned.long)
 
 pub loop-preserved : goal.loop-preserved
 loop-preserved c =
