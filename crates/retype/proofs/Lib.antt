@@ -1,4 +1,3 @@
-pub mod Steps
 pub mod Alignment
 pub mod Sizes
 pub mod Passed

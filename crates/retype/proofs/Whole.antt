@@ -12,7 +12,7 @@ use Rattle.model.specs.Tree.{Forest, cap_at}
 use Rattle.model.specs.Operations.{find, node, any_taken, start, allot, retype}
 use Rattle.retype.specs.Window.{sized, node_by, window_in, taken_by, vacant_in, first_slot}
 use Rattle.model.proofs.Outcome.{bind_bind, then_bind}
-use Rattle.retype.proofs.Steps.{bind_ok}
+use Rattle.model.proofs.Steps.{bind_ok}
 
 then_then : {A B C : Type 0} (c : Check A) (d : Check B) (e : Check C) → ((c >> d) >> e) ≡ (c >> (d >> e))
 unfolding ◌>>◌

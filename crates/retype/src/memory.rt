@@ -18,7 +18,7 @@ pub fn start(t: &[u32], row: Row, u: Cap) -> u32
 }
 
 // The byte at which the window's objects begin, if the bytes of an Untyped from `from` on are enough.
-#[tactic(auto, unfolding(crate::specs::Allotting::memory_for), using(crate::proofs::Sizes::exponent_small, crate::proofs::Bytes::bytes_small, crate::proofs::Steps::steps))]
+#[tactic(auto, unfolding(crate::specs::Allotting::memory_for), using(crate::proofs::Sizes::exponent_small, crate::proofs::Bytes::bytes_small, model::proofs::Steps::steps))]
 pub fn memory_for(u: Cap, from: u32, q: Retyping) -> Result<u32, Refusal>
     requires { Bounded u from q }
     ensures { result ≡ memory_for edition32 u from q }

@@ -51,7 +51,7 @@ pub fn new_cap(object: u32, size: u32, address: Address) -> Cap
 }
 
 // The tests of the object type and size.
-#[tactic(auto, unfolding(crate::specs::Window::sized, model::specs::Kinds::of_object), using(crate::proofs::Steps::steps))]
+#[tactic(auto, unfolding(crate::specs::Window::sized, model::specs::Kinds::of_object), using(model::proofs::Steps::steps))]
 pub fn sized(object: u32, size: u32) -> Result<(), Refusal>
     ensures { result ≡ tests.sized edition32 object size }
 {

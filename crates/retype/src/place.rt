@@ -14,7 +14,7 @@ use table::size::slots_of;
 use table::{cap_at, row_of};
 
 // What a place names, at depth 0 its root itself.
-#[tactic(auto, unfolding(crate::specs::Window::node_by), using(crate::proofs::Steps::steps))]
+#[tactic(auto, unfolding(crate::specs::Window::node_by), using(model::proofs::Steps::steps))]
 pub fn node(t: &[u32], p: Place) -> Result<Cap, Refusal>
     requires ready { Ready t.now }
     requires usable { (cap.is_cnode p.root ≡ true → Usable t.now p.root) }
@@ -37,7 +37,7 @@ pub fn any_taken(t: &[u32], first: Row, n: u32) -> bool
 }
 
 // The first slot of the window in a node.
-#[tactic(auto, unfolding(crate::specs::Window::window_in, model::specs::Cap::first_row), using(crate::proofs::Steps::steps))]
+#[tactic(auto, unfolding(crate::specs::Window::window_in, model::specs::Cap::first_row), using(model::proofs::Steps::steps))]
 pub fn window(n: Cap, q: Retyping) -> Result<Row, Refusal>
     requires { cap.is_cnode n ≡ true → cap.first_row edition32 n + cap.slots n ≤ most_rows }
     ensures { numbered result ≡ tests.window_in edition32 n q }
@@ -72,7 +72,7 @@ pub fn window(n: Cap, q: Retyping) -> Result<Row, Refusal>
 }
 
 // The first slot of the window in a node, if all its slots are empty.
-#[tactic(auto, unfolding(crate::specs::Window::vacant_in), using(crate::proofs::Steps::steps))]
+#[tactic(auto, unfolding(crate::specs::Window::vacant_in), using(model::proofs::Steps::steps))]
 pub fn vacant_window(t: &[u32], n: Cap, q: Retyping) -> Result<Row, Refusal>
     requires ready { Ready t.now }
     requires usable { (cap.is_cnode n ≡ true → Usable t.now n) }
@@ -86,7 +86,7 @@ pub fn vacant_window(t: &[u32], n: Cap, q: Retyping) -> Result<Row, Refusal>
 }
 
 // All tests but that of the memory, and the first slot of the window.
-#[tactic(auto, unfolding(crate::specs::Window::first_slot), using(crate::proofs::Steps::steps))]
+#[tactic(auto, unfolding(crate::specs::Window::first_slot), using(model::proofs::Steps::steps))]
 pub fn first_slot(t: &[u32], q: Retyping) -> Result<Row, Refusal>
     requires ready { Ready t.now }
     requires usable { (cap.is_cnode q.into.root ≡ true → Usable t.now q.into.root) }
