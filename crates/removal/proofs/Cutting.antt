@@ -27,6 +27,7 @@ use Rattle.model.proofs.Words.Around.{At}
 use Rattle.model.proofs.Words.Edited.{listed_under}
 use Rattle.model.proofs.Words.Runs.{raised_run}
 use Rattle.model.proofs.Words.Removed.{write_removed}
+use Rattle.model.proofs.Kept.Allowed.{houses_parts}
 use Rattle.model.proofs.Kept.Edits.{entries_without}
 use Rattle.model.proofs.Kept.Objects.{same_refl, same_parts, same_empty}
 use Rattle.model.proofs.Kept.Removal.{Swept, removed_none, removed_start}
@@ -85,10 +86,6 @@ module _ (t : Tables) (well : well_formed edition32 t ≡ true) (k : ℕ) where
     abbrev R : List ℕ
     R = removed edition32 (entries f) (k ∷ [])
 
-    node_of : (c : Cap) (j : ℕ) → houses edition32 c j ≡ true → is_cnode c ≡ true
-    unfolding houses
-    node_of c j h = and_left _ _ (and_left _ _ h)
-
     -- another entry that names the same object
     entry_of : (j : ℕ) → (j ≡ k → ⊥) → same_object (cap_at f k) (cap_at f j) ≡ true → (e : Entry) × Has e (entries f) × (e.row ≡ k → ⊥) × (same_object (cap_at f k) e.cap ≡ true)
     entry_of j other same =
@@ -99,7 +96,7 @@ module _ (t : Tables) (well : well_formed edition32 t ≡ true) (k : ℕ) where
     alone n e mn me h names =
         let only : (d : Entry) → Has d (entries f) → same_object n.cap d.cap ≡ true → d.row ≡ k = λ d md same. Memᴰ.eq_of_singleton (member_has d.row (k ∷ []) (names d md same)) in
         let c : cap_at f k ≡ n.cap = ap (cap_at f) (sym (only n mn (same_refl n.cap))) ∙ known (sound t well) mn in
-        let (j, j-other, j-same) = elsewhere (cap_at f) (rows_of_tables t) k (rw (caps t well, row_count_lem t well) at lone) (ap is_cnode c ∙ node_of n.cap e.row h) in
+        let (j, j-other, j-same) = elsewhere (cap_at f) (rows_of_tables t) k (rw (caps t well, row_count_lem t well) at lone) (ap is_cnode c ∙ (houses_parts edition32 n.cap e.row h).cnode) in
         let (d, md, other, same) = entry_of j j-other j-same in
         absurd (other (only d md (subst (λ x. same_object x d.cap ≡ true) c same)))
 

@@ -31,84 +31,47 @@ use Rattle.model.proofs.Words.Descendants.{under_deep, past_low, holds_after, al
 use Rattle.model.proofs.Words.Bounds.{rows_small}
 use Rattle.removal.specs.Marking.{only, row_count}
 use Rattle.removal.specs.Removing.{occupied}
-use Rattle.removal.proofs.Marks.{or_false}
-use Rattle.removal.proofs.Slots.{or_or}
+use Rattle.removal.proofs.Marks.{or_false, or_or}
 use Rattle.removal.proofs.Tables.{rows_of_tables, list_read}
 use Rattle.removal.proofs.Nodes.{sound, row_count_lem}
-use Rattle.removal.proofs.Raising.{there_of, Raised}
+use Rattle.removal.proofs.Ahead.{Ahead, ahead_as, ahead_none, ahead_step}
+use Rattle.removal.proofs.Raising.{Raising}
 
--- us is to come, ps comes after the rows below; S are the rows that are passed, and `all` the rows below
-pub record Descent (n : ℕ) (t : List ℕ) (d : ℕ) (all : List ℕ) (next left : ℕ) (S : ℕ → Bool) (us ps : List Listed) : Type 0 where
-  pub room : n < 4294967295
-  pub before : ℕ
-  pub holds : Holds edition32 (row_at t) before (us ++ ps)
-  pub below : All (λ k. k < n) (rows_in (us ++ ps))
+-- us is still to be marked; S are the rows that are passed, and `all` the rows below
+pub record Descent (n : ℕ) (t : List ℕ) (d : ℕ) (all : List ℕ) (next turn turns : ℕ) (S : ℕ → Bool) : Type 0 where
+  pub us : List Listed
+  pub ps : List Listed
+  pub ahead : Ahead n t d next turn turns us ps
   pub there : All (λ k. is_empty (cap_of t k) ≡ false) (rows_in us)
-  pub deep : All (λ x. d < x.depth) us
-  pub low : Low (d + 1) ps
-  pub next_is : next ≡ first_of edition32 (us ++ ps)
-  pub fuel : length us ≤ left
   pub seen : (j : ℕ) → (S j || member j (rows_in us)) ≡ member j all
-
-abbrev pub Descending : (n : ℕ) (t : List ℕ) (d : ℕ) (all : List ℕ) (next left : ℕ) (S : ℕ → Bool) → Type 0
-Descending n t d all next left S = (us : List Listed) × (ps : List Listed) × Descent n t d all next left S us ps
 
 only_eqb : (t : List ℕ) (k j : ℕ) → is_empty (cap_of t k) ≡ false → only (cap_of t) k j ≡ eqb j k
 unfolding only
 only_eqb t k j e = either (eqb j k) (λ u. rw (u, eqb-true j k u, e)) (λ f. rw f)
 
-module _ (n : ℕ) (t : List ℕ) (d : ℕ) (all : List ℕ) (next left : ℕ) (S : ℕ → Bool) where
-  passed : (ps : List Listed) → Descent n t d all next left S [] ps → (j : ℕ) → S j ≡ member j all
-  unfolding member any
-  passed ps w j = or_false (S j) ∙ w.seen j
-
-  deep_first : (u : Listed) (ys : List Listed) (before : ℕ) → Holds edition32 (row_at t) before (u ∷ ys) → next ≡ u.entry.row → word t next 7 ≡ u.depth
-  deep_first u ys before h e = ap (λ k. word t k 7) e ∙ ap (λ r. get_or r 7 0) h.0
-
-  pub descent_as : {d' next' : ℕ} → d' ≡ d → next' ≡ next → Descending n t d all next left S → Descending n t d' all next' left S
+module _ {n : ℕ} {t : List ℕ} {d : ℕ} {all : List ℕ} {next turn turns : ℕ} {S : ℕ → Bool} where
+  pub descent_as : {d' next' : ℕ} → d' ≡ d → next' ≡ next → Descent n t d all next turn turns S → Descent n t d' all next' turn turns S
   descent_as p q w = rw (p, q) w
 
-  -- the walk ends where no row is left, where the list ends, and at a row that is not deeper
-  pub descent_spent : Descending n t d all next left S → left ≡ 0 → (j : ℕ) → S j ≡ member j all
-  descent_spent ([], ps, w) h = passed ps w
-  descent_spent (u ∷ us, ps, w) h = absurd (omega (arith, w.fuel))
+  pub descended_all : (w : Descent n t d all next turn turns S) → w.us ≡ [] → (j : ℕ) → S j ≡ member j all
+  unfolding member any
+  descended_all w none j = or_false (S j) ∙ ap (λ l. S j || member j (rows_in l)) (sym none) ∙ w.seen j
 
-  pub descent_end : Descending n t d all next left S → next ≡ 4294967295 → (j : ℕ) → S j ≡ member j all
-  unfolding first_of
-  descent_end ([], ps, w) h = passed ps w
-  descent_end (u ∷ us, ps, w) h = absurd (omega (arith, w.next_is, w.below.0, w.room))
-
-  pub descent_low : Descending n t d all next left S → word t next 7 ≤ d → (next ≡ 4294967295 → ⊥) → (j : ℕ) → S j ≡ member j all
-  unfolding first_of
-  descent_low ([], ps, w) h ne = passed ps w
-  descent_low (u ∷ us, ps, w) h ne = absurd (omega (arith, deep_first u (us ++ ps) w.before w.holds w.next_is, w.deep.0))
-
-  pub descent_row : Descending n t d all next left S → (next ≡ 4294967295 → ⊥) → next < n
-  unfolding first_of
-  descent_row ([], [], w) ne = absurd (ne w.next_is)
-  descent_row ([], p ∷ ps, w) ne = omega (arith, w.next_is, w.below.0)
-  descent_row (u ∷ us, ps, w) ne = omega (arith, w.next_is, w.below.0)
-
-  pub descent_step : Descending n t d all next left S → (next ≡ 4294967295 → ⊥) → d < word t next 7 → Descending n t d all (word t next 5) (left - 1) (λ j. S j || only (cap_of t) next j)
+  pub descent_step : (w : Descent n t d all next turn turns S) → (next ≡ 4294967295 → ⊥) → d < word t next 7 → Descent n t d all (word t next 5) (turn + 1) turns (λ j. S j || only (cap_of t) next j)
   unfolding first_of member any
-  descent_step ([], [], w) ne h = absurd (ne w.next_is)
-  descent_step ([], p ∷ ps, w) ne h = absurd (omega (arith, deep_first p ps w.before w.holds w.next_is, w.low))
-  descent_step (u ∷ us, ps, w) ne h = (
-    us,
-    ps,
-    record {
-      room = w.room;
-      before = u.entry.row;
-      holds = w.holds.1;
-      below = w.below.1;
-      there = w.there.1;
-      deep = w.deep.1;
-      low = w.low;
-      next_is = ap (λ k. word t k 5) w.next_is ∙ ap (λ r. get_or r 5 0) w.holds.0;
-      fuel = omega (arith, w.fuel);
-      seen = λ j. or_or (S j) (only (cap_of t) next j) (member j (rows_in us)) ∙ ap (λ b. S j || (b || member j (rows_in us))) (ap (λ k. only (cap_of t) k j) w.next_is ∙ only_eqb t u.entry.row j w.there.0) ∙ w.seen j;
-    },
-  )
+  descent_step w ne h = go w.us w.ps w.ahead w.there w.seen
+    where
+      go : (us ps : List Listed) → Ahead n t d next turn turns us ps → All (λ k. is_empty (cap_of t k) ≡ false) (rows_in us) → ((j : ℕ) → (S j || member j (rows_in us)) ≡ member j all)
+          → Descent n t d all (word t next 5) (turn + 1) turns (λ j. S j || only (cap_of t) next j)
+      go [] ps a there seen = absurd (ahead_none a ne h)
+      go (u ∷ us) ps a there seen =
+          record {
+            us = us;
+            ps = ps;
+            ahead = ahead_step a;
+            there = there.1;
+            seen = λ j. or_or (S j) (only (cap_of t) next j) (member j (rows_in us)) ∙ ap (λ b. S j || (b || member j (rows_in us))) (ap (λ k. only (cap_of t) k j) a.next_is ∙ only_eqb t u.entry.row j there.0) ∙ seen j;
+          }
 
 -- ---- where the walk begins
 
@@ -174,51 +137,49 @@ module _ (t : Tables) (well : well_formed edition32 t ≡ true) (k : ℕ) where
     rows_below_lem : rows_in us ≡ descendants f k
     rows_below_lem = unfold descendants in sym (map-map (λ e. e.row) (λ x. x.entry) us) ∙ ap (map (λ e. e.row)) (descendants_are k f at (sound t well).distinct)
 
-    pub descent_start : Descending (row_count t.table) t.table (word t.table k 7) (descendants f k) (word t.table k 5) (get_or t.control 3 0) (λ j. false)
+    ahead_start : Ahead (rows_of_tables t) t.table (word t.table k 7) (word t.table k 5) 0 (get_or t.control 3 0) us ps
+    ahead_start =
+        ahead_as depth after
+        (record {
+          room = omega (arith, rows_small t well);
+          before = (listed_of at).entry.row;
+          holds = holds_after edition32 (row_at t.table) 4294967295 pre (listed_of at) (us ++ ps) written.holds;
+          below = all_after (λ j. j < rows_of_tables t) pre (listed_of at) (us ++ ps) below_all;
+          deep = under_deep k f at;
+          low = past_low k f at;
+          next_is = refl;
+          fuel = omega (arith, longer pre (listed_of at) us ps, ap length listed, form.chained.long);
+        })
+
+    pub descent_start : Descent (row_count t.table) t.table (word t.table k 7) (descendants f k) (word t.table k 5) 0 (get_or t.control 3 0) (λ j. false)
     descent_start =
-        rw (row_count_lem t well, depth) (
-          us,
-          ps,
-          record {
-            room = omega (arith, rows_small t well);
-            before = (listed_of at).entry.row;
-            holds = holds_after edition32 (row_at t.table) 4294967295 pre (listed_of at) (us ++ ps) written.holds;
-            below = all_after (λ j. j < rows_of_tables t) pre (listed_of at) (us ++ ps) below_all;
-            there =
-                all_map (rows_in us) (λ j h. not-true (is_empty (cap_of t.table j)) h.1)
-                (all_first (λ j. (j < rows_of_tables t) × (not (is_empty (cap_of t.table j)) ≡ true)) us ps (all_after (λ j. (j < rows_of_tables t) × (not (is_empty (cap_of t.table j)) ≡ true)) pre (listed_of at) (us ++ ps) taken));
-            deep = under_deep k f at;
-            low = past_low k f at;
-            next_is = after;
-            fuel = omega (arith, longer pre (listed_of at) us ps, ap length listed, form.chained.long);
-            seen = λ j. ap (member j) rows_below_lem;
-          },
-        )
+        rw (row_count_lem t well)
+        (record {
+          us = us;
+          ps = ps;
+          ahead = ahead_start;
+          there =
+              all_map (rows_in us) (λ j h. not-true (is_empty (cap_of t.table j)) h.1)
+              (all_first (λ j. (j < rows_of_tables t) × (not (is_empty (cap_of t.table j)) ≡ true)) us ps (all_after (λ j. (j < rows_of_tables t) × (not (is_empty (cap_of t.table j)) ≡ true)) pre (listed_of at) (us ++ ps) taken));
+          seen = λ j. ap (member j) rows_below_lem;
+        })
 
     distinct_after : (pre : List Listed) (x : Listed) (post : List Listed) → Distinct (rows_in (pre ++ x ∷ post)) → Distinct (rows_in post)
     distinct_after [] x post d = d.1
     distinct_after (q ∷ pre) x post d = distinct_after pre x post d.1
 
     -- so begins the walk that puts the rows below one up
-    pub raised_start : Raised (row_count t.table) t.table (word t.table k 7) (raised_run t.table (listed_under at)) (word t.table k 5) (get_or t.control 3 0)
-    raised_start =
-        rw (row_count_lem t well, depth) (
-          us,
-          ps,
-          record {
-            room = omega (arith, rows_small t well);
-            long = form.table_long;
-            before = (listed_of at).entry.row;
-            holds = holds_after edition32 (row_at t.table) 4294967295 pre (listed_of at) (us ++ ps) written.holds;
-            distinct = distinct_after pre (listed_of at) (us ++ ps) distinct;
-            below = all_after (λ j. j < rows_of_tables t) pre (listed_of at) (us ++ ps) below_all;
-            deep = under_deep k f at;
-            low = past_low k f at;
-            next_is = after;
-            fuel = omega (arith, longer pre (listed_of at) us ps, ap length listed, form.chained.long);
-            up = refl;
-          },
-        )
+    pub raising_start : Raising (row_count t.table) t.table (word t.table k 7) (raised_run t.table (listed_under at)) (word t.table k 5) 0 (get_or t.control 3 0)
+    raising_start =
+        rw (row_count_lem t well)
+        (record {
+          us = us;
+          ps = ps;
+          ahead = ahead_start;
+          long = form.table_long;
+          distinct = distinct_after pre (listed_of at) (us ++ ps) distinct;
+          up = refl;
+        })
 
     -- there is a row, so the count is not 0
     pub some_row : 0 < get_or t.control 3 0
@@ -230,7 +191,8 @@ module _ (t : Tables) (well : well_formed edition32 t ≡ true) (k : ℕ) where
 -- where an occupied row stands, and that it is in the table
 module _ (t : Tables) (well : well_formed edition32 t ≡ true) (row : ℕ) (there : occupied t row ≡ true) where
   pub stands : At row (read edition32 t).forest
-  stands = place t well row (there_of t row there)
+  unfolding occupied
+  stands = place t well row (not-true _ there)
 
   pub row_in : row < row_count t.table
   row_in = row_below_n t well row stands

@@ -10,6 +10,7 @@ pub mod Tallying
 pub mod Nodes
 pub mod Start
 pub mod Removed
+pub mod Ahead
 pub mod Raising
 pub mod Descent
 pub mod Elsewhere

@@ -13,168 +13,172 @@ use Rattle.model.specs.declared.Cap.{Cap}
 use Rattle.model.specs.Edition.{edition32}
 use Rattle.model.specs.Cap.{is_cnode, first_row}
 use Rattle.model.specs.Lists.{count}
+use Rattle.model.specs.Tables.{cap_of}
 use Rattle.model.proofs.Booleans.{either}
 use Rattle.model.proofs.Distinct.{count_same, count_less, count_most}
-use Rattle.removal.specs.Marking.{marked, names, still_names, Counted, Lost, Served, waits, emptied, Waiting}
+use Rattle.model.proofs.Kept.Allowed.{some_slot}
+use Rattle.removal.specs.declared.following.Marking.{Marking}
+use Rattle.removal.specs.Marking.{row_count, marked, names, still_names, Counted, Lost, Served, waits, emptied, Waiting}
 
--- ---- marks
-
-module _ (mark : List ℕ) (k : ℕ) (l : k < length mark) where
-  pub marked_same : marked (set mark k 1) k ≡ true
-  unfolding marked
-  marked_same = rw (get_or-set_same mark k 1 0 l)
-
-  pub marked_other : (j : ℕ) → (j ≡ k → ⊥) → marked (set mark k 1) j ≡ marked mark j
-  unfolding marked
-  marked_other j h = rw (get_or-set_other mark k j 1 0 h)
-
-  pub marked_more : (j : ℕ) → marked mark j ≡ true → marked (set mark k 1) j ≡ true
-  marked_more j t = either (eqb j k) (λ e. rw (eqb-true j k e) marked_same) (λ f. marked_other j (eqb-false j k f) ∙ t)
-
-pub unmarked : (mark : List ℕ) (k : ℕ) → get_or mark k 0 ≡ 0 → marked mark k ≡ false
-unfolding marked
-unmarked mark k e = rw e
-
-pub is_marked : (mark : List ℕ) (k : ℕ) → (get_or mark k 0 ≡ 0 → ⊥) → marked mark k ≡ true
-unfolding marked
-is_marked mark k h = rw (ne_eqb (get_or mark k 0) 0 h)
+pub served_more : {n : ℕ} {cap : ℕ → Cap} {m m' : Marking} {taken c : ℕ} → m.filled ≤ m'.filled → ((i : ℕ) → i < m.filled → get_or m'.work i 0 ≡ get_or m.work i 0) → ((j : ℕ) → marked m.mark j ≡ true → marked m'.mark j ≡ true)
+    → Served n cap m taken c → Served n cap m' taken c
+served_more {cap = cap} le kept grown (waits i a b e) = waits i a (omega arith) (ap (λ j. first_row edition32 (cap j)) (kept i b) ∙ e)
+served_more le kept grown (emptied all) = emptied (λ j a b o. grown j (all j a b o))
 
 -- ---- a row that is marked now
 
-module _ (n : ℕ) (cap : ℕ → Cap) (mark : List ℕ) (k : ℕ) (in_table : k < n) (l : k < length mark) (new : marked mark k ≡ false) where
-  abbrev mark' : List ℕ
-  mark' = set mark k 1
+module _ (t : List ℕ) (m : Marking) (k : ℕ) (h : Counted t m) (in_table : k < row_count t) where
+  abbrev n : ℕ
+  n = row_count t
 
-  more_marked : count (marked mark') n ≡ suc (count (marked mark) n)
-  more_marked = count_less (marked mark') (marked mark) k n in_table (marked_same mark k l) new (λ j h ne. marked_other mark k l j ne)
+  abbrev cap : ℕ → Cap
+  cap = cap_of t
 
-  still_other : (c j : ℕ) → (j ≡ k → ⊥) → still_names cap mark c j ≡ still_names cap mark' c j
-  unfolding still_names
-  still_other c j ne = rw (marked_other mark k l j ne)
+  abbrev now : Marking
+  now = record m { mark = set m.mark k true }
 
-  still_gone : (c : ℕ) → still_names cap mark' c k ≡ false
-  unfolding still_names
-  still_gone c = rw (marked_same mark k l) (go (names cap c k))
-    where
-      go : (b : Bool) → (b && false) ≡ false
-      go true = refl
-      go false = refl
+  pub marked_same : marked now.mark k ≡ true
+  marked_same = get_or-set_same m.mark k true false (omega (arith, h.long))
 
-  -- of a CNode that row k does not name as many names are left
-  left_same : (c : ℕ) → names cap c k ≡ false → count (still_names cap mark c) n ≡ count (still_names cap mark' c) n
-  left_same c f =
-      count_same (still_names cap mark c) (still_names cap mark' c) n (λ j h.
-      either (eqb j k)
-      (λ e. rw (eqb-true j k e) (unfold still_names in rw f))
-      (λ ne. still_other c j (eqb-false j k ne)))
+  pub marked_other : (j : ℕ) → (j ≡ k → ⊥) → marked now.mark j ≡ marked m.mark j
+  marked_other j ne = get_or-set_other m.mark k j true false ne
 
-  -- of the CNode that it names one less
-  left_less : (c : ℕ) → names cap c k ≡ true → count (still_names cap mark c) n ≡ suc (count (still_names cap mark' c) n)
-  left_less c t = count_less (still_names cap mark c) (still_names cap mark' c) k n in_table (unfold still_names in rw (t, new)) (still_gone c) (λ j h ne. still_other c j ne)
+  marked_more : (j : ℕ) → marked m.mark j ≡ true → marked now.mark j ≡ true
+  marked_more j u = either (eqb j k) (λ e. ap (marked now.mark) (eqb-true j k e) ∙ marked_same) (λ f. marked_other j (eqb-false j k f) ∙ u)
 
-  served_more : (work work' : List ℕ) (taken filled filled' c : ℕ) → filled ≤ filled' → ((i : ℕ) → i < filled → get_or work' i 0 ≡ get_or work i 0)
-      → Served n cap mark work taken filled c → Served n cap mark' work' taken filled' c
-  served_more work work' taken filled filled' c le kept (waits i a b e) = waits i a (omega arith) (ap (λ j. first_row edition32 (cap j)) (kept i b) ∙ e)
-  served_more work work' taken filled filled' c le kept (emptied all) = emptied (λ j a b o. marked_more mark k l j (all j a b o))
+  module _ (new : marked m.mark k ≡ false) where
+    more_marked : count (marked now.mark) n ≡ suc (count (marked m.mark) n)
+    more_marked = count_less (marked now.mark) (marked m.mark) k n in_table marked_same new (λ j b ne. marked_other j ne)
 
-  -- it names no CNode
-  module _ (plain : is_cnode (cap k) ≡ false) (counts : List ℕ) where
-    names_none : (c : ℕ) → names cap c k ≡ false
-    unfolding names
-    names_none c = rw plain
+    still_other : (c j : ℕ) → (j ≡ k → ⊥) → still_names cap m.mark c j ≡ still_names cap now.mark c j
+    unfolding still_names
+    still_other c j ne = rw (marked_other j ne)
 
-    pub counted_plain : (filled : ℕ) → Counted n cap mark counts filled → Counted n cap mark' counts filled
-    counted_plain filled h = record { long = rw (length-set mark k 1) h.long; wide = h.wide; left = λ c b. h.left c b ∙ left_same c (names_none c); room = omega (arith, more_marked, h.room) }
-
-    pub waiting_plain : (work : List ℕ) (taken filled : ℕ) → Waiting n cap mark counts work taken filled → Waiting n cap mark' counts work taken filled
-    waiting_plain work taken filled w =
-        record {
-          deep = w.deep;
-          in_order = w.in_order;
-          lost = w.lost;
-          served = λ c h. served_more work work taken filled filled c (omega arith) (λ i b. refl) (w.served c h);
-        }
-
-  -- it names a CNode
-  module _ (node : is_cnode (cap k) ≡ true) (first : ℕ) (is : first_row edition32 (cap k) ≡ first) (counts : List ℕ) (inside : first < n) (filled : ℕ) (counted : Counted n cap mark counts filled) where
-    abbrev counts' : List ℕ
-    counts' = set counts first (get_or counts first 0 - 1)
-
-    names_first : names cap first k ≡ true
-    unfolding names
-    names_first = rw (node, eq-eqb (first_row edition32 (cap k)) first is)
-
-    names_other : (c : ℕ) → (c ≡ first → ⊥) → names cap c k ≡ false
-    unfolding names
-    names_other c ne = rw (node, ne_eqb (first_row edition32 (cap k)) c (λ e. ne (sym e ∙ is)))
-
-    pub left_some : get_or counts first 0 ≡ suc (count (still_names cap mark' first) n)
-    left_some = counted.left first inside ∙ left_less first names_first
-
-    at_first : get_or counts' first 0 ≡ get_or counts first 0 - 1
-    at_first = get_or-set_same counts first (get_or counts first 0 - 1) 0 (omega (arith, counted.wide))
-
-    at_others : (c : ℕ) → (c ≡ first → ⊥) → get_or counts' c 0 ≡ get_or counts c 0
-    at_others c ne = get_or-set_other counts first c (get_or counts first 0 - 1) 0 ne
-
-    left_now : (c : ℕ) → c < n → get_or counts' c 0 ≡ count (still_names cap mark' c) n
-    left_now c b =
-        either (eqb c first)
-        (λ e. rw (eqb-true c first e) (omega (arith, at_first, left_some)))
-        (λ f. let ne = eqb-false c first f in at_others c ne ∙ counted.left c b ∙ left_same c (names_other c ne))
-
-    pub counted_node : Counted n cap mark' counts' filled
-    counted_node = record { long = rw (length-set mark k 1) counted.long; wide = rw (length-set counts first (get_or counts first 0 - 1)) counted.wide; left = left_now; room = omega (arith, more_marked, counted.room) }
-
-    pub counted_last : Counted n cap mark' counts' (filled + 1)
-    counted_last = record { long = counted_node.long; wide = counted_node.wide; left = left_now; room = omega (arith, more_marked, counted.room) }
-
-    -- it waits at a place of `work`
-    pub room_left : filled < n
-    room_left = omega (arith, more_marked, counted.room, count_most (marked mark') n)
-
-    lost_still : (j : ℕ) → Lost n cap counts j → Lost n cap counts' j
-    lost_still j h =
-        record {
-          in_table = h.in_table;
-          node = h.node;
-          unnamed = at_others (first_row edition32 (cap j)) (λ e. let z : get_or counts first 0 ≡ 0 = rw e at h.unnamed in omega (arith, left_some)) ∙ h.unnamed;
-        }
-
-    lost_before : (j : ℕ) → Lost n cap counts' j → (first_row edition32 (cap j) ≡ first → ⊥) → Lost n cap counts j
-    lost_before j h ne = record { in_table = h.in_table; node = h.node; unnamed = sym (at_others (first_row edition32 (cap j)) ne) ∙ h.unnamed }
-
-    pub waiting_node : (work : List ℕ) (taken : ℕ) → (get_or counts first 0 - 1 ≡ 0 → ⊥) → Waiting n cap mark counts work taken filled → Waiting n cap mark' counts' work taken filled
-    waiting_node work taken some w =
-        record {
-          deep = w.deep;
-          in_order = w.in_order;
-          lost = λ i a b. lost_still (get_or work i 0) (w.lost i a b);
-          served = λ c h. served_more work work taken filled filled c (omega arith) (λ i b. refl) (w.served c (lost_before c h (λ e.
-              some (sym at_first ∙ ap (λ j. get_or counts' j 0) (sym e) ∙ h.unnamed))));
-        }
-
-    pub waiting_last : (work : List ℕ) (taken : ℕ) → get_or counts first 0 - 1 ≡ 0 → Waiting n cap mark counts work taken filled → Waiting n cap mark' counts' (set work filled k) taken (filled + 1)
-    waiting_last work taken none w =
-        record {
-          deep = rw (length-set work filled k) w.deep;
-          in_order = omega (arith, w.in_order);
-          lost = λ i a b.
-              either (eqb i filled)
-              (λ e. rw (eqb-true i filled e, placed) (record { in_table = in_table; node = node; unnamed = ap (λ j. get_or counts' j 0) is ∙ at_first ∙ none }))
-              (λ f. let ne = eqb-false i filled f in rw (kept i ne) (lost_still (get_or work i 0) (w.lost i a (omega arith))));
-          served = λ c h.
-              either (eqb (first_row edition32 (cap c)) first)
-              (λ e. waits filled w.in_order (omega arith) (ap (λ j. first_row edition32 (cap j)) placed ∙ is ∙ sym (eqb-true (first_row edition32 (cap c)) first e)))
-              (λ f. served_more work (set work filled k) taken filled (filled + 1) c (omega arith) (λ i b. kept i (omega arith)) (w.served c (lost_before c h (eqb-false (first_row edition32 (cap c)) first f))));
-        }
+    still_gone : (c : ℕ) → still_names cap now.mark c k ≡ false
+    unfolding still_names
+    still_gone c = rw marked_same (go (names cap c k))
       where
-        placed : get_or (set work filled k) filled 0 ≡ k
-        placed = get_or-set_same work filled k 0 (omega (arith, room_left, w.deep))
+        go : (b : Bool) → (b && false) ≡ false
+        go true = refl
+        go false = refl
 
-        kept : (i : ℕ) → (i ≡ filled → ⊥) → get_or (set work filled k) i 0 ≡ get_or work i 0
-        kept i ne = get_or-set_other work filled i k 0 ne
+    -- of a CNode that row k does not name as many names are left
+    left_same : (c : ℕ) → names cap c k ≡ false → count (still_names cap m.mark c) n ≡ count (still_names cap now.mark c) n
+    left_same c f =
+        count_same (still_names cap m.mark c) (still_names cap now.mark c) n (λ j b.
+        either (eqb j k)
+        (λ e. rw (eqb-true j k e) (unfold still_names in rw f))
+        (λ ne. still_other c j (eqb-false j k ne)))
+
+    -- of the CNode that it names one less
+    left_less : (c : ℕ) → names cap c k ≡ true → count (still_names cap m.mark c) n ≡ suc (count (still_names cap now.mark c) n)
+    left_less c u = count_less (still_names cap m.mark c) (still_names cap now.mark c) k n in_table (unfold still_names in rw (u, new)) (still_gone c) (λ j b ne. still_other c j ne)
+
+    long_now : n ≤ length now.mark
+    long_now = omega (arith, h.long, length-set m.mark k true)
+
+    -- it names no CNode
+    module _ (plain : is_cnode (cap k) ≡ false) where
+      names_none : (c : ℕ) → names cap c k ≡ false
+      unfolding names
+      names_none c = rw plain
+
+      pub counted_plain : Counted t now
+      counted_plain = record { nodes = h.nodes; long = long_now; wide = h.wide; left = λ c b. h.left c b ∙ left_same c (names_none c); room = omega (arith, more_marked, h.room) }
+
+      pub waiting_plain : (taken : ℕ) → Waiting t m taken → Waiting t now taken
+      waiting_plain taken w = record { deep = w.deep; in_order = w.in_order; lost = w.lost; served = λ c l. served_more (omega arith) (λ i b. refl) marked_more (w.served c l) }
+
+    -- it names a CNode
+    module _ (node : is_cnode (cap k) ≡ true) (first : ℕ) (is : first_row edition32 (cap k) ≡ first) where
+      abbrev fewer : Marking
+      fewer = record m { mark = set m.mark k true; counts = set m.counts first (get_or m.counts first 0 - 1) }
+
+      inside : first < n
+      inside = omega (arith, is, h.nodes.inside k in_table node, some_slot (cap k))
+
+      names_first : names cap first k ≡ true
+      unfolding names
+      names_first = rw (node, eq-eqb (first_row edition32 (cap k)) first is)
+
+      names_other : (c : ℕ) → (c ≡ first → ⊥) → names cap c k ≡ false
+      unfolding names
+      names_other c ne = rw (node, ne_eqb (first_row edition32 (cap k)) c (λ e. ne (sym e ∙ is)))
+
+      pub left_some : get_or m.counts first 0 ≡ suc (count (still_names cap now.mark first) n)
+      left_some = h.left first inside ∙ left_less first names_first
+
+      at_first : get_or fewer.counts first 0 ≡ get_or m.counts first 0 - 1
+      at_first = get_or-set_same m.counts first (get_or m.counts first 0 - 1) 0 (omega (arith, h.wide, inside))
+
+      at_others : (c : ℕ) → (c ≡ first → ⊥) → get_or fewer.counts c 0 ≡ get_or m.counts c 0
+      at_others c ne = get_or-set_other m.counts first c (get_or m.counts first 0 - 1) 0 ne
+
+      left_now : (c : ℕ) → c < n → get_or fewer.counts c 0 ≡ count (still_names cap now.mark c) n
+      left_now c b =
+          either (eqb c first)
+          (λ e. rw (eqb-true c first e) (omega (arith, at_first, left_some)))
+          (λ f. let ne = eqb-false c first f in at_others c ne ∙ h.left c b ∙ left_same c (names_other c ne))
+
+      wide_now : n ≤ length fewer.counts
+      wide_now = omega (arith, h.wide, length-set m.counts first (get_or m.counts first 0 - 1))
+
+      pub counted_node : Counted t fewer
+      counted_node = record { nodes = h.nodes; long = long_now; wide = wide_now; left = left_now; room = omega (arith, more_marked, h.room) }
+
+      -- it waits at a place of `work`
+      pub room_left : m.filled < n
+      room_left = omega (arith, more_marked, h.room, count_most (marked now.mark) n)
+
+      lost_still : (j : ℕ) → Lost n cap m.counts j → Lost n cap fewer.counts j
+      lost_still j l =
+          record {
+            in_table = l.in_table;
+            node = l.node;
+            unnamed = at_others (first_row edition32 (cap j)) (λ e. let z : get_or m.counts first 0 ≡ 0 = rw e at l.unnamed in omega (arith, left_some)) ∙ l.unnamed;
+          }
+
+      lost_before : (j : ℕ) → Lost n cap fewer.counts j → (first_row edition32 (cap j) ≡ first → ⊥) → Lost n cap m.counts j
+      lost_before j l ne = record { in_table = l.in_table; node = l.node; unnamed = sym (at_others (first_row edition32 (cap j)) ne) ∙ l.unnamed }
+
+      pub waiting_node : (get_or m.counts first 0 - 1 ≡ 0 → ⊥) → (taken : ℕ) → Waiting t m taken → Waiting t fewer taken
+      waiting_node some taken w =
+          record {
+            deep = w.deep;
+            in_order = w.in_order;
+            lost = λ i a b. lost_still (get_or m.work i 0) (w.lost i a b);
+            served = λ c l. served_more (omega arith) (λ i b. refl) marked_more (w.served c (lost_before c l (λ e.
+                some (sym at_first ∙ ap (λ j. get_or fewer.counts j 0) (sym e) ∙ l.unnamed))));
+          }
+
+      -- the last one: the CNode waits
+      abbrev last : Marking
+      last = record { mark = fewer.mark; counts = fewer.counts; work = set m.work m.filled k; filled = m.filled + 1 }
+
+      pub counted_last : Counted t last
+      counted_last = record { nodes = h.nodes; long = long_now; wide = wide_now; left = left_now; room = omega (arith, more_marked, h.room) }
+
+      kept : (i : ℕ) → (i ≡ m.filled → ⊥) → get_or last.work i 0 ≡ get_or m.work i 0
+      kept i ne = get_or-set_other m.work m.filled i k 0 ne
+
+      pub waiting_last : get_or m.counts first 0 - 1 ≡ 0 → (taken : ℕ) → Waiting t m taken → Waiting t last taken
+      waiting_last none taken w =
+          record {
+            deep = omega (arith, w.deep, length-set m.work m.filled k);
+            in_order = omega (arith, w.in_order);
+            lost = λ i a b.
+                either (eqb i m.filled)
+                (λ e. rw (eqb-true i m.filled e, placed) (record { in_table = in_table; node = node; unnamed = ap (λ j. get_or fewer.counts j 0) is ∙ at_first ∙ none }))
+                (λ f. let ne = eqb-false i m.filled f in rw (kept i ne) (lost_still (get_or m.work i 0) (w.lost i a (omega arith))));
+            served = λ c l.
+                either (eqb (first_row edition32 (cap c)) first)
+                (λ e. waits m.filled w.in_order (omega arith) (ap (λ j. first_row edition32 (cap j)) placed ∙ is ∙ sym (eqb-true (first_row edition32 (cap c)) first e)))
+                (λ f. served_more (omega arith) (λ i b. kept i (omega arith)) marked_more (w.served c (lost_before c l (eqb-false (first_row edition32 (cap c)) first f))));
+          }
+        where
+          placed : get_or last.work m.filled 0 ≡ k
+          placed = get_or-set_same m.work m.filled k 0 (omega (arith, room_left, w.deep))
 
 -- no more CNodes wait than there are rows
-pub counted_few : {n : ℕ} {cap : ℕ → Cap} {mark counts : List ℕ} {filled : ℕ} → Counted n cap mark counts filled → filled ≤ n
-counted_few {n} {mark = mark} h = omega (arith, h.room, count_most (marked mark) n)
+pub counted_few : {t : List ℕ} {m : Marking} → Counted t m → m.filled ≤ row_count t
+counted_few {t} {m} h = omega (arith, h.room, count_most (marked m.mark) (row_count t))

@@ -21,7 +21,7 @@ use Rattle.model.proofs.Kept.Memory.{Over, apart_over, typed_apart}
 use Rattle.model.proofs.Kept.Objects.{same_empty, same_parts}
 use Rattle.model.proofs.Kept.Removal.{Swept}
 use Rattle.model.proofs.Kept.Rules.{fine, known, entry_at, allowed_at}
-use Rattle.model.proofs.Kept.Allowed.{cnode_filled, cnode_typed, some_slot, slots_bound}
+use Rattle.model.proofs.Kept.Allowed.{cnode_filled, cnode_typed, some_slot, slots_bound, houses_parts}
 use Rattle.model.proofs.Words.Bounds.{rows_small, table_long_lem}
 use Rattle.removal.specs.Marking.{Nodes, ClosedRows, row_count}
 use Rattle.removal.proofs.Tables.{rows_of_tables}
@@ -57,15 +57,12 @@ module _ {m : ℕ} {f : Forest} (s : Sound edition32 m f) where
   -- a set closed by the rows is closed by the entries
   pub closed_swept : (S : ℕ → Bool) → ClosedRows (rows edition32 m) (cap_at f) S → Swept edition32 (entries f) (λ k. S k ≡ true)
   closed_swept S closed n e mn me h names =
-      closed n.row e.row (fine s mn).in_table (fine s me).in_table (rw (known s mn) (houses_node n.cap e.row h)) (rw (known s mn) h) (rw (known s me) (fine s me).filled)
+      closed n.row e.row (fine s mn).in_table (fine s me).in_table (rw (known s mn) (houses_parts edition32 n.cap e.row h).cnode) (rw (known s mn) h) (rw (known s me) (fine s me).filled)
       (λ j b same.
       let same' : same_object n.cap (cap_at f j) ≡ true = rw (known s mn) at same in
-      let there : is_empty (cap_at f j) ≡ false = sym (same_empty (same_parts n.cap (cap_at f j) same')) ∙ cnode_filled n.cap (houses_node n.cap e.row h) in
+      let there : is_empty (cap_at f j) ≡ false = sym (same_empty (same_parts n.cap (cap_at f j) same')) ∙ cnode_filled n.cap (houses_parts edition32 n.cap e.row h).cnode in
       let (d, md, rd, qd) = entry_at s j there in
       subst (λ i. S i ≡ true) rd (names d md (rw (← qd) same')))
-    where
-      houses_node : (c : Cap) (k : ℕ) → houses edition32 c k ≡ true → is_cnode c ≡ true
-      houses_node c k h = unfold houses in and_left _ _ (and_left _ _ h)
 
   pub swept_closed : (S : ℕ → Bool) → Swept edition32 (entries f) (λ k. S k ≡ true) → ClosedRows (rows edition32 m) (cap_at f) S
   swept_closed S swept c k bc bk node h o names =

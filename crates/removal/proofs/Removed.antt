@@ -8,7 +8,7 @@ use native.Mathlib.Omega.{arith}
 use lib.Dec.{eqb}
 use lib.ListN.{length}
 use borrow.Author.Tests.{eqb-true}
-use Rattle.model.specs.Edition.{edition32, most_rows}
+use Rattle.model.specs.Edition.{edition32}
 use Rattle.model.specs.Lists.{any, member}
 use Rattle.model.specs.Cap.{is_empty}
 use Rattle.model.specs.Tree.{Forest, entries, below, cap_at}
@@ -24,80 +24,84 @@ use Rattle.model.proofs.Kept.Removal.{removed_start, removed_swept}
 use Rattle.model.proofs.Kept.Forests.{row_below, below_has}
 use Rattle.model.proofs.Kept.Rules.{fine, known, entry_at}
 use Rattle.model.proofs.Removal.Counted.{removed_is, removed_count}
-use Rattle.removal.specs.Marking.{marked, row_count, Zeros, ClosedRows, only, Spread}
-use Rattle.removal.specs.Removing.{Thins, target, offspring, is_offspring, Removes}
+use Rattle.removal.specs.declared.following.Marking.{Marking}
+use Rattle.removal.specs.Marking.{marked, row_count, ClosedRows, Started, Marks, only, Spread}
+use Rattle.removal.specs.Removing.{Thins, target, offspring, is_offspring, Removes, Sweeps}
 use Rattle.removal.proofs.Nodes.{sound, row_count_lem, caps, closed_swept, swept_closed}
-use Rattle.removal.proofs.Start.{none_marked}
 use Rattle.removal.proofs.Tables.{rows_of_tables}
 
-module _ (t : Tables) (well : well_formed edition32 t ≡ true) (start : List ℕ)
-    (there : (k : ℕ) → Has k start → is_empty (cap_at (read edition32 t).forest k) ≡ false) where
+module _ (t : Tables) (well : well_formed edition32 t ≡ true) where
   abbrev f : Forest
   f = (read edition32 t).forest
 
-  abbrev R : List ℕ
-  R = removed edition32 (entries f) start
+  module _ (start : List ℕ) (there : (k : ℕ) → member k start ≡ true → is_empty (cap_at f k) ≡ false) where
+    abbrev R : List ℕ
+    R = removed edition32 (entries f) start
 
-  removed_closed : ClosedRows (rows_of_tables t) (cap_at f) (λ k. member k R)
-  removed_closed =
-      swept_closed (sound t well) (λ k. member k R) (λ n e mn me h names.
-      has_member (removed_swept edition32 (entries f) start n e mn me h (λ d md same. member_has d.row R (names d md same))))
+    removed_closed : ClosedRows (rows_of_tables t) (cap_at f) (λ k. member k R)
+    removed_closed =
+        swept_closed (sound t well) (λ k. member k R) (λ n e mn me h names.
+        has_member (removed_swept edition32 (entries f) start n e mn me h (λ d md same. member_has d.row R (names d md same))))
 
-  -- the start rows are removed
-  begun : (k : ℕ) → member k start ≡ true → member k R ≡ true
-  begun k h =
-      let m = member_has k start h in
-      let (e, me, r, q) = entry_at (sound t well) k (there k m) in
-      has_member (subst (λ j. Has j R) r (removed_start edition32 (entries f) start e me (subst (λ j. Has j start) (sym r) m)))
+    -- the start rows are removed
+    begun : (k : ℕ) → member k start ≡ true → member k R ≡ true
+    begun k h =
+        let (e, me, r, q) = entry_at (sound t well) k (there k h) in
+        has_member (subst (λ j. Has j R) r (removed_start edition32 (entries f) start e me (subst (λ j. Has j start) (sym r) (member_has k start h))))
 
-  pub marked_removed : (mark mark' : List ℕ) → ((k : ℕ) → marked mark k ≡ member k start) → Spread (row_count t.table) (cap_of t.table) mark mark'
-      → (k : ℕ) → marked mark' k ≡ member k (removed edition32 (entries (read edition32 t).forest) start)
-  marked_removed mark mark' starts spread =
-      let s : Spread (rows_of_tables t) (cap_at f) mark mark' = rw (row_count_lem t well, caps t well) at spread in
-      removed_is edition32 (entries f) start (marked mark') (closed_swept (sound t well) (marked mark') s.closed)
-      (λ k m. s.holds k (starts k ∙ has_member m))
-      (λ k h. member_has k R (s.least (λ j. member j R) removed_closed (λ j u. begun j (sym (starts j) ∙ u)) k h))
+    marked_removed : (mark mark' : List Bool) → ((k : ℕ) → marked mark k ≡ member k start) → Spread (row_count t.table) (cap_of t.table) mark mark' → (k : ℕ) → marked mark' k ≡ member k R
+    marked_removed mark mark' starts spread =
+        let s : Spread (rows_of_tables t) (cap_at f) mark mark' = rw (row_count_lem t well, caps t well) at spread in
+        removed_is edition32 (entries f) start (marked mark') (closed_swept (sound t well) (marked mark') s.closed)
+        (λ k m. s.holds k (starts k ∙ has_member m))
+        (λ k h. member_has k R (s.least (λ j. member j R) removed_closed (λ j u. begun j (sym (starts j) ∙ u)) k h))
 
-  pub removes : (mark mark' : List ℕ) (t' : Tables) (gone : ℕ) → ((k : ℕ) → marked mark k ≡ member k start) → Spread (row_count t.table) (cap_of t.table) mark mark' → Thins mark' t t' gone
-      → Removes t t' start gone
+  pub sweeps : (mark mark' : List Bool) (t' : Tables) (gone : ℕ) → Spread (row_count t.table) (cap_of t.table) mark mark' → Thins mark' t t' gone → Sweeps mark t t' gone
   unfolding applied remove
-  removes mark mark' t' gone starts spread thins =
-      let same = marked_removed mark mark' starts spread in
+  sweeps mark mark' t' gone spread thins =
       record {
-        count = omega (arith, thins.count R same, removed_count edition32 (entries f) start, ap length (entries_without R f));
-        tables = thins.tables R same;
+        removes = λ start starts there.
+            let same = marked_removed start there mark mark' starts spread in
+            record {
+              count = omega (arith, thins.count _ same, removed_count edition32 (entries f) start, ap length (entries_without (removed edition32 (entries f) start) f));
+              tables = thins.tables _ same;
+            };
       }
 
--- ---- the start of Delete
+  -- what goes where the rows of S are marked first
+  removes : (S : ℕ → Bool) (start : List ℕ) → ((j : ℕ) → S j ≡ member j start) → ((k : ℕ) → member k start ≡ true → is_empty (cap_at f k) ≡ false)
+      → {m m' : Marking} → Started (cap_of t.table) m (row_count t.table) → Marks t.table S m m' → (t' : Tables) (gone : ℕ) → Sweeps m'.mark t t' gone → Removes t t' start gone
+  removes S start is there {m} s w t' gone sweeps = sweeps.removes start (λ j. w.marks j ∙ rw (s.clear j) (is j)) there
 
-module _ (t : Tables) (well : well_formed edition32 t ≡ true) (k : ℕ) where
-  pub target_there : (j : ℕ) → Has j (target t k) → is_empty (cap_at (read edition32 t).forest j) ≡ false
-  target_there j m = go (is_empty (cap_at (read edition32 t).forest k)) refl m
-    where
-      go : (c : Bool) → is_empty (cap_at (read edition32 t).forest k) ≡ c → Has j (cond c [] (k ∷ [])) → is_empty (cap_at (read edition32 t).forest j) ≡ false
-      go true e m = absurd (Memᴰ.not-nil m)
-      go false e m = ap (λ i. is_empty (cap_at (read edition32 t).forest i)) (Memᴰ.eq_of_singleton m) ∙ e
+  -- ---- the start of Delete
 
-  only_target : (j : ℕ) → only (cap_of t.table) k j ≡ member j (target t k)
-  only_target j = rw (caps t well) (go (is_empty (cap_at (read edition32 t).forest k)) refl)
-    where
-      go : (c : Bool) → is_empty (cap_at (read edition32 t).forest k) ≡ c → only (cap_at (read edition32 t).forest) k j ≡ member j (cond c [] (k ∷ []))
-      go true e = unfold only member any in either (eqb j k) (λ u. rw (u, eqb-true j k u, e)) (λ f. rw f)
-      go false e = unfold only member any in either (eqb j k) (λ u. rw (u, eqb-true j k u, e)) (λ f. rw f)
+  module _ (k : ℕ) where
+    target_there : (j : ℕ) → member j (target t k) ≡ true → is_empty (cap_at f j) ≡ false
+    target_there j m = go (is_empty (cap_at f k)) refl (member_has j (target t k) m)
+      where
+        go : (c : Bool) → is_empty (cap_at f k) ≡ c → Has j (cond c [] (k ∷ [])) → is_empty (cap_at f j) ≡ false
+        go true e m = absurd (Memᴰ.not-nil m)
+        go false e m = ap (λ i. is_empty (cap_at f i)) (Memᴰ.eq_of_singleton m) ∙ e
 
-  pub target_marked : (mark mark' : List ℕ) → Zeros most_rows mark → ((j : ℕ) → marked mark' j ≡ (marked mark j || only (cap_of t.table) k j)) → (j : ℕ) → marked mark' j ≡ member j (target t k)
-  target_marked mark mark' z is j = is j ∙ rw (none_marked mark z j) (only_target j)
+    only_target : (j : ℕ) → only (cap_of t.table) k j ≡ member j (target t k)
+    only_target j = rw (caps t well) (go (is_empty (cap_at f k)) refl)
+      where
+        go : (c : Bool) → is_empty (cap_at f k) ≡ c → only (cap_at f) k j ≡ member j (cond c [] (k ∷ []))
+        go true e = unfold only member any in either (eqb j k) (λ u. rw (u, eqb-true j k u, e)) (λ f. rw f)
+        go false e = unfold only member any in either (eqb j k) (λ u. rw (u, eqb-true j k u, e)) (λ f. rw f)
 
--- ---- the start of Revoke
+    pub removes_target : {m m' : Marking} → Started (cap_of t.table) m (row_count t.table) → Marks t.table (only (cap_of t.table) k) m m' → (t' : Tables) (gone : ℕ) → Sweeps m'.mark t t' gone → Removes t t' (target t k) gone
+    removes_target = removes (only (cap_of t.table) k) (target t k) only_target target_there
 
-module _ (t : Tables) (well : well_formed edition32 t ≡ true) (k : ℕ) where
-  pub offspring_there : (j : ℕ) → Has j (offspring t k) → is_empty (cap_at (read edition32 t).forest j) ≡ false
-  unfolding descendants
-  offspring_there j m =
-      let (y, my, r) = has_map (λ e. e.row) (entries (below (read edition32 t).forest k)) m in
-      let (x, rx, u) = row_below (read edition32 t).forest k my in
-      let mf = below_has u.at u.has in
-      subst (λ i. is_empty (cap_at (read edition32 t).forest i) ≡ false) r (ap is_empty (known (sound t well) mf) ∙ (fine (sound t well) mf).filled)
+    -- ---- the start of Revoke
 
-  pub offspring_marked : (mark mark' : List ℕ) → Zeros most_rows mark → ((j : ℕ) → marked mark' j ≡ (marked mark j || is_offspring t k j)) → (j : ℕ) → marked mark' j ≡ member j (offspring t k)
-  offspring_marked mark mark' z is j = is j ∙ rw (none_marked mark z j)
+    offspring_there : (j : ℕ) → member j (offspring t k) ≡ true → is_empty (cap_at f j) ≡ false
+    unfolding descendants
+    offspring_there j m =
+        let (y, my, r) = has_map (λ e. e.row) (entries (below f k)) (member_has j (offspring t k) m) in
+        let (x, rx, u) = row_below f k my in
+        let mf = below_has u.at u.has in
+        subst (λ i. is_empty (cap_at f i) ≡ false) r (ap is_empty (known (sound t well) mf) ∙ (fine (sound t well) mf).filled)
+
+    pub removes_offspring : {m m' : Marking} → Started (cap_of t.table) m (row_count t.table) → Marks t.table (is_offspring t k) m m' → (t' : Tables) (gone : ℕ) → Sweeps m'.mark t t' gone → Removes t t' (offspring t k) gone
+    removes_offspring = removes (is_offspring t k) (offspring t k) (λ j. refl) offspring_there

@@ -1,4 +1,4 @@
--- Marking one set of rows after another; and the slots of a CNode marked one by one.
+-- The slots of a CNode, one by one.
 use Prim.Native.Nat.{ℕ, ◌+◌, ◌*◌, ◌%◌, ◌^◌, ◌≤◌, ◌<◌}
 use mathlib.Core.Path.{◌≡◌, refl, sym, ap, ◌∙◌}
 use mathlib.Core.Bool.{Bool, true, false, not, ◌&&◌, ◌||◌}
@@ -13,32 +13,8 @@ use Rattle.model.specs.declared.Cap.{Cap}
 use Rattle.model.specs.Edition.{edition32, most_rows}
 use Rattle.model.specs.Cap.{is_empty, is_cnode, first_row, slots, houses}
 use Rattle.model.proofs.Distinct.{Order, less, same, more, order}
-use Rattle.removal.specs.Marking.{marked, Counted, Marks, only, between, in_node}
+use Rattle.removal.specs.Marking.{only, between, in_node}
 use Rattle.removal.proofs.Marks.{or_false}
-
-pub or_or : (b c d : Bool) → ((b || c) || d) ≡ (b || (c || d))
-or_or true c d = refl
-or_or false c d = refl
-
-module _ (n : ℕ) (cap : ℕ → Cap) where
-  pub marks_none : (S : ℕ → Bool) (mark counts work : List ℕ) (filled : ℕ) → ((j : ℕ) → S j ≡ false) → Counted n cap mark counts filled → Marks n cap S mark counts work filled mark counts work filled
-  marks_none S mark counts work filled none h = record { marks = λ j. rw (none j) (or_false (marked mark j)); more = omega arith; kept = λ i b. refl; counted = h; waiting = λ taken w. w }
-
-  pub marks_then : (S T U : ℕ → Bool) {mark₀ counts₀ work₀ mark₁ counts₁ work₁ mark₂ counts₂ work₂ : List ℕ} {filled₀ filled₁ filled₂ : ℕ} → ((j : ℕ) → (S j || T j) ≡ U j)
-      → Marks n cap S mark₀ counts₀ work₀ filled₀ mark₁ counts₁ work₁ filled₁ → Marks n cap T mark₁ counts₁ work₁ filled₁ mark₂ counts₂ work₂ filled₂
-      → Marks n cap U mark₀ counts₀ work₀ filled₀ mark₂ counts₂ work₂ filled₂
-  marks_then S T U {mark₀ = mark} both a b =
-      record {
-        marks = λ j. b.marks j ∙ ap (λ (c : Bool). c || T j) (a.marks j) ∙ or_or (marked mark j) (S j) (T j) ∙ ap (λ (c : Bool). marked mark j || c) (both j);
-        more = omega (arith, a.more, b.more);
-        kept = λ i l. b.kept i (omega (arith, a.more)) ∙ a.kept i l;
-        counted = b.counted;
-        waiting = λ taken w. b.waiting taken (a.waiting taken w);
-      }
-
-  pub marks_as : (S T : ℕ → Bool) {mark counts work mark' counts' work' : List ℕ} {filled filled' : ℕ} → ((j : ℕ) → S j ≡ T j)
-      → Marks n cap S mark counts work filled mark' counts' work' filled' → Marks n cap T mark counts work filled mark' counts' work' filled'
-  marks_as S T {mark = mark} same-as m = record { marks = λ j. m.marks j ∙ ap (λ (c : Bool). marked mark j || c) (same-as j); more = m.more; kept = m.kept; counted = m.counted; waiting = m.waiting }
 
 module _ (cap : ℕ → Cap) where
   pub between_none : (first j : ℕ) → between cap first first j ≡ false

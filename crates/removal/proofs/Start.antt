@@ -8,41 +8,47 @@ use borrow.Author.Tests.{eq-eqb}
 use Rattle.model.specs.declared.Cap.{Cap}
 use Rattle.model.specs.Edition.{edition32, most_rows}
 use Rattle.model.specs.Cap.{is_cnode, first_row}
+use Rattle.model.specs.Lists.{count}
+use Rattle.model.specs.Tables.{cap_of}
 use Rattle.model.proofs.Distinct.{count_same, count_zero}
 use Rattle.model.proofs.Kept.Allowed.{some_slot}
-use Rattle.removal.specs.Marking.{marked, names, still_names, Zeros, Tally, Nodes, Counted, Lost, Waiting}
-use Rattle.removal.proofs.Marking.{unmarked}
+use Rattle.removal.specs.declared.following.Marking.{Marking}
+use Rattle.removal.specs.Marking.{row_count, names, still_names, Nodes, Started, Counted, Lost, Waiting}
 
-pub none_marked : (mark : List ℕ) → Zeros most_rows mark → (k : ℕ) → marked mark k ≡ false
-none_marked mark z k = unmarked mark k (z.zero_at k)
+module _ (t : List ℕ) (m : Marking) (nodes : Nodes (row_count t) (cap_of t)) (s : Started (cap_of t) m (row_count t)) where
+  abbrev n : ℕ
+  n = row_count t
 
-module _ (n : ℕ) (cap : ℕ → Cap) (nodes : Nodes n cap) (mark counts : List ℕ) (z : Zeros most_rows mark) (all : Tally cap counts n) where
-  still : (c k : ℕ) → names cap c k ≡ still_names cap mark c k
+  abbrev cap : ℕ → Cap
+  cap = cap_of t
+
+  still : (c k : ℕ) → names cap c k ≡ still_names cap m.mark c k
   unfolding still_names
-  still c k = rw (none_marked mark z k) (go (names cap c k))
+  still c k = rw (s.clear k) (go (names cap c k))
     where
       go : (b : Bool) → b ≡ (b && true)
       go true = refl
       go false = refl
 
-  pub counted_start : Counted n cap mark counts 0
+  pub counted_start : Counted t m
   counted_start =
       record {
-        long = omega (arith, z.long, nodes.few);
-        wide = omega (arith, all.long, nodes.few);
-        left = λ c b. all.each c (omega (arith, nodes.few)) ∙ count_same (names cap c) (still_names cap mark c) n (λ k h. still c k);
-        room = omega arith;
+        nodes = nodes;
+        long = omega (arith, s.long, nodes.few);
+        wide = omega (arith, s.tally.long, nodes.few);
+        left = λ c b. s.tally.each c (omega (arith, nodes.few)) ∙ count_same (names cap c) (still_names cap m.mark c) n (λ k h. still c k);
+        room = omega (arith, s.empty);
       }
 
   own_name : (c : ℕ) → is_cnode (cap c) ≡ true → names cap (first_row edition32 (cap c)) c ≡ true
   unfolding names
   own_name c t = rw (t, eq-eqb (first_row edition32 (cap c)) (first_row edition32 (cap c)) refl)
 
-  none_lost : (c : ℕ) → Lost n cap counts c → ⊥
+  none_lost : (c : ℕ) → Lost n cap m.counts c → ⊥
   none_lost c h =
       let first = first_row edition32 (cap c) in
       let l = nodes.inside c h.in_table h.node in
-      true≢false (sym (own_name c h.node) ∙ count_zero (names cap first) c n (sym (all.each first (omega (arith, some_slot (cap c), nodes.few))) ∙ h.unnamed) h.in_table)
+      true≢false (sym (own_name c h.node) ∙ count_zero (names cap first) c n (sym (s.tally.each first (omega (arith, some_slot (cap c), nodes.few))) ∙ h.unnamed) h.in_table)
 
-  pub waiting_start : (work : List ℕ) → Zeros most_rows work → Waiting n cap mark counts work 0 0
-  waiting_start work y = record { deep = omega (arith, y.long, nodes.few); in_order = omega arith; lost = λ i a b. absurd (omega arith); served = λ c h. absurd (none_lost c h) }
+  pub waiting_start : Waiting t m 0
+  waiting_start = record { deep = omega (arith, s.deep, nodes.few); in_order = omega (arith, s.empty); lost = λ i a b. absurd (omega (arith, s.empty)); served = λ c h. absurd (none_lost c h) }

@@ -1,5 +1,5 @@
 -- From well-formed tables to the start of a walk along their list, and from its end to the tables without the marked rows.
-use Prim.Native.Nat.{ℕ, zero, suc, ◌+◌, ◌-◌}
+use Prim.Native.Nat.{ℕ, zero, suc, ◌+◌, ◌-◌, ◌≤◌}
 use mathlib.Core.Path.{◌≡◌, refl, sym, ap, ap₂, ◌∙◌}
 use mathlib.Core.Bool.{Bool, true, not}
 use mathlib.Core.List.{List, [], ◌∷◌}
@@ -24,16 +24,17 @@ use Rattle.removal.proofs.Thinning.{thinned, thinned_listing}
 use Rattle.removal.proofs.Walking.{Walked, walk_fit, walk_end}
 
 -- the list without the marked rows, from the numbers of ancestors that are left at the start
-abbrev pub whole : (mark start : List ℕ) → Tables → List Listed
+abbrev pub whole : (mark : List Bool) (start : List ℕ) → Tables → List Listed
 whole mark start t = thinned (marked mark) (λ j. get_or start j 0) (list_in edition32 t)
 
-get_d_zeros : (n j : ℕ) → get_or {A = ℕ} (replicate n 0) j 0 ≡ 0
-get_d_zeros zero j = refl
-get_d_zeros (suc n) zero = refl
-get_d_zeros (suc n) (suc j) = get_d_zeros n j
+-- an array of a default has it at every place, also past its end
+pub get_or_default : {A : Type 0} (n : ℕ) (d : A) (j : ℕ) → get_or (replicate n d) j d ≡ d
+get_or_default zero d j = refl
+get_or_default (suc n) d zero = refl
+get_or_default (suc n) d (suc j) = get_or_default n d j
 
 pub zeros : (n : ℕ) → Zeros n (replicate n 0)
-zeros n = record { long = length-replicate n 0; zero_at = get_d_zeros n }
+zeros n = record { long = length-replicate n 0; zero_at = get_or_default n 0 }
 
 abbrev pub rows_of_tables : Tables → ℕ
 rows_of_tables t = rows edition32 (get_or t.control 0 0)
@@ -49,7 +50,7 @@ module _ (t : Tables) (well : well_formed edition32 t ≡ true) where
   unfolding read
   list_read = listing_grown (list_in edition32 t) form.chained.steps
 
-  pub walk_start : (mark start : List ℕ) → Zeros (most_rows + 1) start → Walked edition32 (rows_of_tables t) (get_or t.control 3 0) (marked mark) (whole mark start t) t.table start (get_or t.control 2 0) (get_or t.control 3 0) 4294967295 4294967295 0
+  pub walk_start : (mark : List Bool) (start : List ℕ) → Zeros (most_rows + 1) start → Walked edition32 (rows_of_tables t) (get_or t.control 3 0) (marked mark) (whole mark start t) t.table start (get_or t.control 2 0) 0 4294967295 4294967295 0
   unfolding first_of
   walk_start mark start z = (
     [],
@@ -60,7 +61,7 @@ module _ (t : Tables) (well : well_formed edition32 t ≡ true) where
       distinct = formed_distinct edition32 t (list_in edition32 t) form;
       below = all_map (rows_in (list_in edition32 t)) (λ k h. h.0) form.chained.taken;
       row_is = sym form.chained.first;
-      left_is = sym form.chained.long;
+      turns = omega (arith, form.chained.long);
       last_is = refl;
       head_is = refl;
       kept_is = refl;
@@ -75,13 +76,13 @@ module _ (t : Tables) (well : well_formed edition32 t ≡ true) where
     },
   )
 
-  module _ (mark start low : List ℕ) (z : Zeros (most_rows + 1) start) (row left last head kept : ℕ) (u : List ℕ)
-      (w : Walked edition32 (rows_of_tables t) (get_or t.control 3 0) (marked mark) (whole mark start t) u low row left last head kept) (done : left ≡ 0) where
+  module _ (mark : List Bool) (start low : List ℕ) (z : Zeros (most_rows + 1) start) (row turn last head kept : ℕ) (u : List ℕ)
+      (w : Walked edition32 (rows_of_tables t) (get_or t.control 3 0) (marked mark) (whole mark start t) u low row turn last head kept) (done : get_or t.control 3 0 ≤ turn) where
     abbrev f : Forest
     f = (read edition32 t).forest
 
     ends : (u ≡ rows_from edition32 (whole mark start t) 0 (rows_of_tables t)) × (head ≡ first_of edition32 (whole mark start t)) × (kept ≡ length (whole mark start t))
-    ends = walk_end edition32 (rows_of_tables t) (get_or t.control 3 0) (marked mark) (whole mark start t) u low row left last head kept w done
+    ends = walk_end edition32 (rows_of_tables t) (get_or t.control 3 0) (marked mark) (whole mark start t) u low row turn last head kept w done
 
     whole_is : (dead : List ℕ) → ((k : ℕ) → marked mark k ≡ member k dead) → whole mark start t ≡ listing 0 (edit (without dead) f)
     whole_is dead same =

@@ -22,27 +22,27 @@ use Rattle.model.proofs.Words.Runs.{distinct_drop, all_drop, depth_written, snoc
 use Rattle.removal.proofs.Thinning.{at, thinned}
 
 -- zs is passed and ys is to come; `all` is what the whole list comes to
-pub record Walk (E : Edition) (n total : ℕ) (dead : ℕ → Bool) (all : List Listed) (t low : List ℕ) (row left last head kept : ℕ) (zs ys : List Listed) : Type 0 where
+pub record Walk (E : Edition) (n total : ℕ) (dead : ℕ → Bool) (all : List Listed) (t low : List ℕ) (row turn last head kept : ℕ) (zs ys : List Listed) : Type 0 where
   pub room : n ≤ E.none
   pub written : Written E n t (zs ++ ys)
   pub distinct : Distinct (rows_in (zs ++ ys))
   pub below : All (λ k. k < n) (rows_in (zs ++ ys))
   pub row_is : row ≡ first_of E ys
-  pub left_is : left ≡ length ys
+  pub turns : turn + length ys ≡ total
   pub last_is : last ≡ last_of E.none zs
   pub head_is : head ≡ first_of E zs
   pub kept_is : kept ≡ length zs
   pub most : ℕ
   pub steps : Steps most ys
   pub few : total ≤ most_rows
-  pub deep : most + left ≤ total
-  pub fit : kept + left ≤ total
+  pub deep : most ≤ turn
+  pub fit : kept ≤ turn
   pub wide : length low ≡ most_rows + 1
   pub shallow : (j : ℕ) → get_or low j 0 ≤ kept
   pub rest : zs ++ thinned dead (λ j. get_or low j 0) ys ≡ all
 
-abbrev pub Walked : (E : Edition) (n total : ℕ) (dead : ℕ → Bool) (all : List Listed) (t low : List ℕ) (row left last head kept : ℕ) → Type 0
-Walked E n total dead all t low row left last head kept = (zs : List Listed) × (ys : List Listed) × Walk E n total dead all t low row left last head kept zs ys
+abbrev pub Walked : (E : Edition) (n total : ℕ) (dead : ℕ → Bool) (all : List Listed) (t low : List ℕ) (row turn last head kept : ℕ) → Type 0
+Walked E n total dead all t low row turn last head kept = (zs : List Listed) × (ys : List Listed) × Walk E n total dead all t low row turn last head kept zs ys
 
 -- ---- the depths
 
@@ -73,7 +73,7 @@ unfolding first_of
 first_more E [] x = refl
 first_more E (z ∷ zs) x = rw (ne_eqb (suc (length zs)) 0 (omega arith))
 
-module _ (E : Edition) (n total : ℕ) (dead : ℕ → Bool) (all : List Listed) (t low : List ℕ) (row left last head kept : ℕ) where
+module _ (E : Edition) (n total : ℕ) (dead : ℕ → Bool) (all : List Listed) (t low : List ℕ) (row turn last head kept : ℕ) where
   -- where the walk is, if it is not at its end
   record Here (zs : List Listed) (x : Listed) (ys : List Listed) : Type 0 where
     in_table : row < n
@@ -82,7 +82,7 @@ module _ (E : Edition) (n total : ℕ) (dead : ℕ → Bool) (all : List Listed)
     depth : word t row 7 ≡ x.depth
     small : word t row 7 < most_rows
 
-  here : (zs : List Listed) (x : Listed) (ys : List Listed) → Walk E n total dead all t low row left last head kept zs (x ∷ ys) → Here zs x ys
+  here : (zs : List Listed) (x : Listed) (ys : List Listed) → Walk E n total dead all t low row turn last head kept zs (x ∷ ys) → Here zs x ys
   unfolding first_of
   here zs x ys w =
       let r : x.entry.row ≡ row = sym w.row_is in
@@ -93,39 +93,33 @@ module _ (E : Edition) (n total : ℕ) (dead : ℕ → Bool) (all : List Listed)
         is_row = r;
         next = subst (λ j. word t j 5 ≡ first_of E ys) r (next_is_lem E n w.room t zs x ys w.below w.distinct w.written);
         depth = d';
-        small = omega (arith, w.steps.0, w.deep, w.few, w.left_is, d');
+        small = omega (arith, w.steps.0, w.deep, w.few, w.turns, d');
       }
 
-  pub walk_row : Walked E n total dead all t low row left last head kept → 0 < left → row < n
-  walk_row (zs, [], w) h = absurd (omega (arith, w.left_is))
+  pub walk_row : Walked E n total dead all t low row turn last head kept → turn < total → row < n
+  walk_row (zs, [], w) h = absurd (omega (arith, w.turns))
   walk_row (zs, x ∷ ys, w) h = (here zs x ys w).in_table
 
-  pub walk_small : Walked E n total dead all t low row left last head kept → 0 < left → word t row 7 < most_rows
-  walk_small (zs, [], w) h = absurd (omega (arith, w.left_is))
+  pub walk_small : Walked E n total dead all t low row turn last head kept → turn < total → word t row 7 < most_rows
+  walk_small (zs, [], w) h = absurd (omega (arith, w.turns))
   walk_small (zs, x ∷ ys, w) h = (here zs x ys w).small
 
-  pub walk_level : Walked E n total dead all t low row left last head kept → (j : ℕ) → get_or low j 0 ≤ kept
-  walk_level (zs, ys, w) = w.shallow
-
-  pub walk_long : Walked E n total dead all t low row left last head kept → length t ≡ 8 * n
+  pub walk_long : Walked E n total dead all t low row turn last head kept → length t ≡ 8 * n
   walk_long (zs, ys, w) = w.written.long
 
-  pub walk_few : Walked E n total dead all t low row left last head kept → total ≤ most_rows
-  walk_few (zs, ys, w) = w.few
+  pub walk_as : {t' low' : List ℕ} {row' last' head' kept' : ℕ} → t' ≡ t → low' ≡ low → row' ≡ row → last' ≡ last → head' ≡ head → kept' ≡ kept
+      → Walked E n total dead all t low row turn last head kept → Walked E n total dead all t' low' row' turn last' head' kept'
+  walk_as a b c d e f w = rw (a, b, c, d, e, f) w
 
-  pub walk_as : {t' low' : List ℕ} {row' left' last' head' kept' : ℕ} → t' ≡ t → low' ≡ low → row' ≡ row → left' ≡ left → last' ≡ last → head' ≡ head → kept' ≡ kept
-      → Walked E n total dead all t low row left last head kept → Walked E n total dead all t' low' row' left' last' head' kept'
-  walk_as a b c d e f g w = rw (a, b, c, d, e, f, g) w
-
-  pub walk_fit : Walked E n total dead all t low row left last head kept → kept + left ≤ total
-  walk_fit (zs, ys, w) = w.fit
+  pub walk_fit : Walked E n total dead all t low row turn last head kept → kept ≤ total
+  walk_fit (zs, ys, w) = omega (arith, w.fit, w.turns)
 
   abbrev level : ℕ
   level = get_or low (word t row 7) 0
 
-  pub walk_drop : Walked E n total dead all t low row left last head kept → 0 < left → dead row ≡ true
-      → Walked E n total dead all (unlinked t row last (word t row 5)) (set low (word t row 7 + 1) (get_or low (word t row 7) 0)) (word t row 5) (left - 1) last head kept
-  walk_drop (zs, [], w) h gone = absurd (omega (arith, w.left_is))
+  pub walk_drop : Walked E n total dead all t low row turn last head kept → turn < total → dead row ≡ true
+      → Walked E n total dead all (unlinked t row last (word t row 5)) (set low (word t row 7 + 1) (get_or low (word t row 7) 0)) (word t row 5) (turn + 1) last head kept
+  walk_drop (zs, [], w) h gone = absurd (omega (arith, w.turns))
   walk_drop (zs, x ∷ ys, w) h gone =
       let p = here zs x ys w in (
         zs,
@@ -138,7 +132,7 @@ module _ (E : Edition) (n total : ℕ) (dead : ℕ → Bool) (all : List Listed)
           distinct = distinct_drop zs x ys w.distinct;
           below = all_drop (λ k. k < n) zs x ys w.below;
           row_is = p.next;
-          left_is = omega (arith, w.left_is);
+          turns = omega (arith, w.turns);
           last_is = w.last_is;
           head_is = w.head_is;
           kept_is = w.kept_is;
@@ -153,15 +147,15 @@ module _ (E : Edition) (n total : ℕ) (dead : ℕ → Bool) (all : List Listed)
         },
       )
     where
-      thin : Here zs x ys → Walk E n total dead all t low row left last head kept zs (x ∷ ys)
+      thin : Here zs x ys → Walk E n total dead all t low row turn last head kept zs (x ∷ ys)
           → thinned dead (λ j. get_or (set low (word t row 7 + 1) level) j 0) ys ≡ thinned dead (λ j. get_or low j 0) (x ∷ ys)
       thin p w = unfold thinned in
           rw (ap dead p.is_row ∙ gone)
           (ap (λ (f : ℕ → ℕ). thinned dead f ys) (lows low (word t row 7 + 1) level (omega (arith, w.wide, p.small)) ∙ ap (λ (d : ℕ). at (λ j. get_or low j 0) (d + 1) (get_or low d 0)) p.depth))
 
-  pub walk_keep : Walked E n total dead all t low row left last head kept → 0 < left → dead row ≡ false
-      → Walked E n total dead all (set t (row * 8 + 7) (get_or low (word t row 7) 0)) (set low (word t row 7 + 1) (get_or low (word t row 7) 0 + 1)) (word t row 5) (left - 1) row (cond (eqb kept 0) row head) (kept + 1)
-  walk_keep (zs, [], w) h stays = absurd (omega (arith, w.left_is))
+  pub walk_keep : Walked E n total dead all t low row turn last head kept → turn < total → dead row ≡ false
+      → Walked E n total dead all (set t (row * 8 + 7) (get_or low (word t row 7) 0)) (set low (word t row 7 + 1) (get_or low (word t row 7) 0 + 1)) (word t row 5) (turn + 1) row (cond (eqb kept 0) row head) (kept + 1)
+  walk_keep (zs, [], w) h stays = absurd (omega (arith, w.turns))
   walk_keep (zs, x ∷ ys, w) h stays =
       let p = here zs x ys w in
       let y : Listed = record { entry = x.entry; depth = level } in
@@ -177,7 +171,7 @@ module _ (E : Edition) (n total : ℕ) (dead : ℕ → Bool) (all : List Listed)
           distinct = subst Distinct same_rows w.distinct;
           below = subst (All (λ k. k < n)) same_rows w.below;
           row_is = p.next;
-          left_is = omega (arith, w.left_is);
+          turns = omega (arith, w.turns);
           last_is = sym (last_more E.none zs y ∙ p.is_row);
           head_is = sym (first_more E zs y ∙ (λ i. cond (eqb (sym w.kept_is i) 0) (p.is_row i) (sym w.head_is i)));
           kept_is = omega (arith, w.kept_is, length-append zs (y ∷ []));
@@ -192,7 +186,7 @@ module _ (E : Edition) (n total : ℕ) (dead : ℕ → Bool) (all : List Listed)
         },
       )
     where
-      thin : Here zs x ys → Walk E n total dead all t low row left last head kept zs (x ∷ ys)
+      thin : Here zs x ys → Walk E n total dead all t low row turn last head kept zs (x ∷ ys)
           → record { entry = x.entry; depth = level } ∷ thinned dead (λ j. get_or (set low (word t row 7 + 1) (level + 1)) j 0) ys ≡ thinned dead (λ j. get_or low j 0) (x ∷ ys)
       thin p w = unfold thinned in
           rw (ap dead p.is_row ∙ stays)
@@ -200,9 +194,9 @@ module _ (E : Edition) (n total : ℕ) (dead : ℕ → Bool) (all : List Listed)
           ∷ (ap (λ (f : ℕ → ℕ). thinned dead f ys) (lows low (word t row 7 + 1) (level + 1) (omega (arith, w.wide, p.small)) ∙ ap (λ (d : ℕ). at (λ j. get_or low j 0) (d + 1) (get_or low d 0 + 1)) p.depth)) i)
 
   -- at the end of the list
-  pub walk_end : Walked E n total dead all t low row left last head kept → left ≡ 0 → (t ≡ rows_from E all 0 n) × (head ≡ first_of E all) × (kept ≡ length all)
+  pub walk_end : Walked E n total dead all t low row turn last head kept → total ≤ turn → (t ≡ rows_from E all 0 n) × (head ≡ first_of E all) × (kept ≡ length all)
   unfolding thinned
-  walk_end (zs, x ∷ ys, w) h = absurd (omega (arith, w.left_is))
+  walk_end (zs, x ∷ ys, w) h = absurd (omega (arith, w.turns))
   walk_end (zs, [], w) h =
       let e : zs ≡ all = sym (append-nil zs) ∙ w.rest in (
         written_is E n t (zs ++ []) w.written ∙ ap (λ (l : List Listed). rows_from E l 0 n) w.rest,

@@ -1,5 +1,5 @@
 -- What a removal leaves of the tables.
-use Rattle.std.specs.Prelude.{ℕ, ◌+◌, ◌≡◌, Bool, cond, not, ◌&&◌, ◌||◌, List, [], ◌∷◌, eqb, ltb, length}
+use Rattle.std.specs.Prelude.{ℕ, ◌+◌, ◌≡◌, Bool, true, false, cond, not, ◌&&◌, ◌||◌, List, [], ◌∷◌, eqb, ltb, length}
 use Rattle.model.specs.declared.Cap.{Cap}
 use Rattle.model.specs.Lists.{member, count}
 use Rattle.model.specs.Edition.{edition32}
@@ -14,7 +14,7 @@ use Rattle.model.proofs.Words.Runs.{raised_run}
 use Rattle.removal.specs.Marking.{marked}
 
 -- the marked rows are gone from the tables, `gone` of them
-pub record Thins (mark : List ℕ) (t t' : Tables) (gone : ℕ) : Type 0 where
+pub record Thins (mark : List Bool) (t t' : Tables) (gone : ℕ) : Type 0 where
   pub tables : (dead : List ℕ) → ((k : ℕ) → marked mark k ≡ member k dead)
       → t' ≡ write edition32 (record { m = (read edition32 t).m; r = (read edition32 t).r; forest = edit (without dead) (read edition32 t).forest })
   pub count : (dead : List ℕ) → ((k : ℕ) → marked mark k ≡ member k dead)
@@ -40,6 +40,12 @@ is_offspring t k j = member j (offspring t k)
 pub record Removes (t t' : Tables) (start : List ℕ) (gone : ℕ) : Type 0 where
   pub count : gone ≡ (after_removal t start).count
   pub tables : t' ≡ write edition32 (after_removal t start).state
+
+-- the rows of `start` are marked, and they go, with all that follows
+pub record Sweeps (mark : List Bool) (t t' : Tables) (gone : ℕ) : Type 0 where
+  pub removes : (start : List ℕ) → ((k : ℕ) → marked mark k ≡ member k start)
+      → ((k : ℕ) → member k start ≡ true → is_empty (cap_at (read edition32 t).forest k) ≡ false)
+      → Removes t t' start gone
 
 -- ---- one row by itself
 

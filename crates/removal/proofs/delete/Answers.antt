@@ -1,12 +1,10 @@
 -- `removal::delete` meets its contract: nothing goes from an empty row, a row that nothing follows goes alone, and from any other the marks
 -- spread. Assumes nothing.
 use mathlib.Core.Path.{sym, ◌∙◌}
-use Rattle.model.specs.Edition.{most_rows}
 use Rattle.removal.specs.Removing.{occupied}
-use Rattle.removal.proofs.Tables.{zeros}
 use Rattle.removal.proofs.Nodes.{nodes, empty_at, there_at}
 use Rattle.removal.proofs.Start.{counted_start, waiting_start}
-use Rattle.removal.proofs.Removed.{removes, target_there, target_marked}
+use Rattle.removal.proofs.Removed.{removes_target}
 use Rattle.removal.proofs.Cutting.{removes_none, removes_one}
 use Rattle.removal.proofs.delete.Goals as goal
 
@@ -28,22 +26,14 @@ returns-then-goes_alone c =
 pub count_names-requires-clause-nodes : goal.count_names-requires-clause-nodes
 count_names-requires-clause-nodes c = nodes _ c.requires.formed
 
-pub count_names-requires-clause-zeros : goal.count_names-requires-clause-zeros
-count_names-requires-clause-zeros c = zeros most_rows
+pub count_names-requires-clause-started : goal.count_names-requires-clause-started
+count_names-requires-clause-started c = c.new-going.ensures _
 
-pub mark_row-filled-requires-clause-nodes : goal.mark_row-filled-requires-clause-nodes
-mark_row-filled-requires-clause-nodes c = nodes _ c.requires.formed
+pub mark_row-requires-clause-counted : goal.mark_row-requires-clause-counted
+mark_row-requires-clause-counted c = counted_start _ _ (nodes _ c.requires.formed) c.count_names.ensures
 
-pub mark_row-filled-requires-clause-counted : goal.mark_row-filled-requires-clause-counted
-mark_row-filled-requires-clause-counted c = counted_start _ _ (nodes _ c.requires.formed) _ _ (zeros most_rows) c.count_names.ensures
-
-pub spread-requires-clause-nodes : goal.spread-requires-clause-nodes
-spread-requires-clause-nodes c = nodes _ c.requires.formed
-
-pub spread-requires-clause-waiting : goal.spread-requires-clause-waiting
-spread-requires-clause-waiting c = c.mark_row-filled.ensures.waiting 0 (waiting_start _ _ (nodes _ c.requires.formed) _ _ (zeros most_rows) c.count_names.ensures _ (zeros most_rows))
+pub sweep-requires-clause-waiting : goal.sweep-requires-clause-waiting
+sweep-requires-clause-waiting c = c.mark_row.ensures.waiting 0 (waiting_start _ _ (nodes _ c.requires.formed) c.count_names.ensures)
 
 pub returns : goal.returns
-returns c =
-    removes _ c.requires.formed _ (target_there _ c.requires.formed c.args.row.0) _ _ _ _
-    (target_marked _ c.requires.formed c.args.row.0 _ _ (zeros most_rows) c.mark_row-filled.ensures.marks) c.spread.ensures c.thin.ensures
+returns c = removes_target _ c.requires.formed _ c.count_names.ensures c.mark_row.ensures _ _ c.sweep.ensures

@@ -1,10 +1,11 @@
 -- `removal::cut` meets its contract: its stores are those of the tables without the row. Assumes nothing.
 use Prim.Native.Nat.{ℕ, ◌-◌}
-use mathlib.Core.Path.{ap, ap₂, ◌∙◌}
+use mathlib.Core.Path.{◌≡◌, ap, ap₂, ◌∙◌}
 use mathlib.Core.Bool.{cond}
 use native.Mathlib.Omega.{arith}
 use lib.Dec.{eqb}
 use lib.ListN.{length, get_or, set}
+use borrow.Author.Tests.{ne_eqb}
 use Rattle.model.specs.Stores.{unlinked}
 use Rattle.model.specs.Tables.{lent}
 use Rattle.model.proofs.Words.Edited.{listed_under}
@@ -12,6 +13,7 @@ use Rattle.removal.proofs.Raising.{run_long}
 use Rattle.removal.proofs.Descent.{some_row, stands, row_in}
 use Rattle.removal.proofs.Cutting.{cut_is}
 use Rattle.removal.proofs.single.cut.Goals as goal
+use Rattle.removal.proofs.single.cut.Goals.{then-last, else-last}
 
 pub word-last-requires : goal.word-last-requires
 word-last-requires c = (omega arith, omega (arith, row_in _ c.requires.formed _ c.requires.occupied))
@@ -19,8 +21,8 @@ word-last-requires c = (omega arith, omega (arith, row_in _ c.requires.formed _ 
 pub word-next-requires : goal.word-next-requires
 word-next-requires c = (omega arith, omega (arith, row_in _ c.requires.formed _ c.requires.occupied))
 
-pub overflow_sub-count : goal.overflow_sub-count
-overflow_sub-count c = some_row _ c.requires.formed _ (stands _ c.requires.formed _ c.requires.occupied)
+pub overflow_sub-control : goal.overflow_sub-control
+overflow_sub-control c = some_row _ c.requires.formed _ (stands _ c.requires.formed _ c.requires.occupied)
 
 pub unlink-requires : goal.unlink-requires
 unlink-requires c =
@@ -32,7 +34,13 @@ returns c =
     let p = stands _ c.requires.formed _ c.requires.occupied in
     let last = c.word-last.ensures in
     let next = c.word-next.ensures in
+    let head : c.if-last.control ≡ cond (eqb c.word-last.result 4294967295) c.word-next.result (get_or c.args.control.now 2 0) =
+        elim c.if-last.branch [
+          | then-last w ↦ rw (w.if-last.true) w.control-is
+          | else-last w ↦ rw (ne_eqb _ _ w.if-last.false) w.control-is
+        ]
+    in
     ap₂ lent
-    (c.unlink.ensures ∙ (λ j. unlinked (c.raise_descendants.ensures.is p j) c.args.row (last j) (next j)))
-    (ap (λ (n : ℕ). set (set c.args.control.now 2 n) 3 (get_or c.args.control.now 3 0 - 1)) (c.head_without-head.ensures ∙ (λ j. cond (eqb (last j) 4294967295) (next j) (get_or c.args.control.now 2 0))))
+    (c.unlink.ensures ∙ (λ j. unlinked (c.raise_descendants.ensures.is p j) c.args.row.0 (last j) (next j)))
+    (ap (λ (n : ℕ). set (set c.args.control.now 2 n) 3 (get_or c.args.control.now 3 0 - 1)) (head ∙ (λ j. cond (eqb (last j) 4294967295) (next j) (get_or c.args.control.now 2 0))))
     ∙ cut_is _ c.requires.formed _ p
