@@ -89,6 +89,10 @@ module _ (t : Tables) (well : well_formed edition32 t ≡ true) (k : ℕ) where
   form : Formed edition32 t (list_in edition32 t)
   form = formed edition32 roomy32 t well
 
+  -- row j is in the table, and occupied
+  abbrev Taken : ℕ → Type 0
+  Taken j = (j < rows_of_tables t) × (not (is_empty (cap_of t.table j)) ≡ true)
+
   -- an empty row has nothing below it
   pub none_below : is_empty (cap_at f k) ≡ true → (j : ℕ) → member j (descendants f k) ≡ false
   unfolding descendants
@@ -116,8 +120,8 @@ module _ (t : Tables) (well : well_formed edition32 t ≡ true) (k : ℕ) where
     listed : list_in edition32 t ≡ pre ++ listed_of at ∷ (us ++ ps)
     listed = sym (list_read t well) ∙ listing_at k f at ∙ ap (λ l. pre ++ listed_of at ∷ l) (after_is k f at)
 
-    taken : All (λ j. (j < rows_of_tables t) × (not (is_empty (cap_of t.table j)) ≡ true)) (rows_in (pre ++ listed_of at ∷ (us ++ ps)))
-    taken = subst (λ l. All (λ j. (j < rows_of_tables t) × (not (is_empty (cap_of t.table j)) ≡ true)) (rows_in l)) listed form.chained.taken
+    taken : All Taken (rows_in (pre ++ listed_of at ∷ (us ++ ps)))
+    taken = subst (λ l. All Taken (rows_in l)) listed form.chained.taken
 
     below_all : All (λ j. j < rows_of_tables t) (rows_in (pre ++ listed_of at ∷ (us ++ ps)))
     below_all = all_map (rows_in (pre ++ listed_of at ∷ (us ++ ps))) (λ j h. h.0) taken
@@ -158,9 +162,7 @@ module _ (t : Tables) (well : well_formed edition32 t ≡ true) (k : ℕ) where
           us = us;
           ps = ps;
           ahead = ahead_start;
-          there =
-              all_map (rows_in us) (λ j h. not-true (is_empty (cap_of t.table j)) h.1)
-              (all_first (λ j. (j < rows_of_tables t) × (not (is_empty (cap_of t.table j)) ≡ true)) us ps (all_after (λ j. (j < rows_of_tables t) × (not (is_empty (cap_of t.table j)) ≡ true)) pre (listed_of at) (us ++ ps) taken));
+          there = all_map (rows_in us) (λ j h. not-true (is_empty (cap_of t.table j)) h.1) (all_first Taken us ps (all_after Taken pre (listed_of at) (us ++ ps) taken));
           seen = λ j. ap (member j) rows_below_lem;
         })
 

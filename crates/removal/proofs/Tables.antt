@@ -18,7 +18,7 @@ use Rattle.model.proofs.Words.Listing.{listing_grown}
 use Rattle.model.proofs.Words.ReadWrite.{entries_listing}
 use Rattle.model.proofs.Words.WellFormed.{Formed, formed, formed_distinct, formed_written, roomy32, list_in}
 use Rattle.model.proofs.Words.Bounds.{rows_small}
-use Rattle.removal.specs.Marking.{marked, Zeros}
+use Rattle.removal.specs.Marking.{marked}
 use Rattle.removal.specs.Removing.{Thins}
 use Rattle.removal.proofs.Thinning.{thinned, thinned_listing}
 use Rattle.removal.proofs.Walking.{Walked, walk_fit, walk_end}
@@ -32,6 +32,11 @@ pub get_or_default : {A : Type 0} (n : ℕ) (d : A) (j : ℕ) → get_or (replic
 get_or_default zero d j = refl
 get_or_default (suc n) d zero = refl
 get_or_default (suc n) d (suc j) = get_or_default n d j
+
+-- an array of zeros
+pub record Zeros (n : ℕ) (xs : List ℕ) : Type 0 where
+  pub long : length xs ≡ n
+  pub zero_at : (j : ℕ) → get_or xs j 0 ≡ 0
 
 pub zeros : (n : ℕ) → Zeros n (replicate n 0)
 zeros n = record { long = length-replicate n 0; zero_at = get_or_default n 0 }
@@ -52,10 +57,11 @@ module _ (t : Tables) (well : well_formed edition32 t ≡ true) where
 
   pub walk_start : (mark : List Bool) (start : List ℕ) → Zeros (most_rows + 1) start → Walked edition32 (rows_of_tables t) (get_or t.control 3 0) (marked mark) (whole mark start t) t.table start (get_or t.control 2 0) 0 4294967295 4294967295 0
   unfolding first_of
-  walk_start mark start z = (
-    [],
-    list_in edition32 t,
-    record {
+  walk_start mark start z =
+      record {
+        zs = [];
+        ys = list_in edition32 t;
+        walk = record {
       room = form.room;
       written = formed_written edition32 t (list_in edition32 t) form;
       distinct = formed_distinct edition32 t (list_in edition32 t) form;
@@ -73,8 +79,8 @@ module _ (t : Tables) (well : well_formed edition32 t ≡ true) where
       wide = z.long;
       shallow = λ j. omega (arith, z.zero_at j);
       rest = refl;
-    },
-  )
+    };
+      }
 
   module _ (mark : List Bool) (start low : List ℕ) (z : Zeros (most_rows + 1) start) (row turn last head kept : ℕ) (u : List ℕ)
       (w : Walked edition32 (rows_of_tables t) (get_or t.control 3 0) (marked mark) (whole mark start t) u low row turn last head kept) (done : get_or t.control 3 0 ≤ turn) where
@@ -82,7 +88,7 @@ module _ (t : Tables) (well : well_formed edition32 t ≡ true) where
     f = (read edition32 t).forest
 
     ends : (u ≡ rows_from edition32 (whole mark start t) 0 (rows_of_tables t)) × (head ≡ first_of edition32 (whole mark start t)) × (kept ≡ length (whole mark start t))
-    ends = walk_end edition32 (rows_of_tables t) (get_or t.control 3 0) (marked mark) (whole mark start t) u low row turn last head kept w done
+    ends = walk_end w done
 
     whole_is : (dead : List ℕ) → ((k : ℕ) → marked mark k ≡ member k dead) → whole mark start t ≡ listing 0 (edit (without dead) f)
     whole_is dead same =
@@ -109,5 +115,5 @@ module _ (t : Tables) (well : well_formed edition32 t ≡ true) where
     thins =
         record {
           tables = λ dead same. tables_are dead (whole_is dead same);
-          count = λ dead same. omega (arith, entries_long f, entries_long (edit (without dead) f), ap length (whole_is dead same), ends.2, ap length list_read, form.chained.long, walk_fit edition32 _ _ _ _ _ _ _ _ _ _ _ w);
+          count = λ dead same. omega (arith, entries_long f, entries_long (edit (without dead) f), ap length (whole_is dead same), ends.2, ap length list_read, form.chained.long, walk_fit w);
         }

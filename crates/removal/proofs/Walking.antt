@@ -41,8 +41,11 @@ pub record Walk (E : Edition) (n total : ℕ) (dead : ℕ → Bool) (all : List 
   pub shallow : (j : ℕ) → get_or low j 0 ≤ kept
   pub rest : zs ++ thinned dead (λ j. get_or low j 0) ys ≡ all
 
-abbrev pub Walked : (E : Edition) (n total : ℕ) (dead : ℕ → Bool) (all : List Listed) (t low : List ℕ) (row turn last head kept : ℕ) → Type 0
-Walked E n total dead all t low row turn last head kept = (zs : List Listed) × (ys : List Listed) × Walk E n total dead all t low row turn last head kept zs ys
+-- wherever it is
+pub record Walked (E : Edition) (n total : ℕ) (dead : ℕ → Bool) (all : List Listed) (t low : List ℕ) (row turn last head kept : ℕ) : Type 0 where
+  pub zs : List Listed
+  pub ys : List Listed
+  pub walk : Walk E n total dead all t low row turn last head kept zs ys
 
 -- ---- the depths
 
@@ -73,16 +76,20 @@ unfolding first_of
 first_more E [] x = refl
 first_more E (z ∷ zs) x = rw (ne_eqb (suc (length zs)) 0 (omega arith))
 
-module _ (E : Edition) (n total : ℕ) (dead : ℕ → Bool) (all : List Listed) (t low : List ℕ) (row turn last head kept : ℕ) where
-  -- where the walk is, if it is not at its end
-  record Here (zs : List Listed) (x : Listed) (ys : List Listed) : Type 0 where
-    in_table : row < n
-    is_row : x.entry.row ≡ row
-    next : word t row 5 ≡ first_of E ys
-    depth : word t row 7 ≡ x.depth
-    small : word t row 7 < most_rows
+-- where a walk is, if it is not at its end
+record Here (E : Edition) (n : ℕ) (t : List ℕ) (row : ℕ) (x : Listed) (ys : List Listed) : Type 0 where
+  in_table : row < n
+  is_row : x.entry.row ≡ row
+  next : word t row 5 ≡ first_of E ys
+  depth : word t row 7 ≡ x.depth
+  small : word t row 7 < most_rows
 
-  here : (zs : List Listed) (x : Listed) (ys : List Listed) → Walk E n total dead all t low row turn last head kept zs (x ∷ ys) → Here zs x ys
+-- how many ancestors of the row are left
+abbrev level : (t low : List ℕ) (row : ℕ) → ℕ
+level t low row = get_or low (word t row 7) 0
+
+module _ {E : Edition} {n total : ℕ} {dead : ℕ → Bool} {all : List Listed} {t low : List ℕ} {row turn last head kept : ℕ} where
+  here : (zs : List Listed) (x : Listed) (ys : List Listed) → Walk E n total dead all t low row turn last head kept zs (x ∷ ys) → Here E n t row x ys
   unfolding first_of
   here zs x ys w =
       let r : x.entry.row ≡ row = sym w.row_is in
@@ -96,34 +103,36 @@ module _ (E : Edition) (n total : ℕ) (dead : ℕ → Bool) (all : List Listed)
         small = omega (arith, w.steps.0, w.deep, w.few, w.turns, d');
       }
 
+  -- before the last turn it is not
+  before_end : (w : Walked E n total dead all t low row turn last head kept) → turn < total → (x : Listed) × (ys : List Listed) × Walk E n total dead all t low row turn last head kept w.zs (x ∷ ys)
+  before_end w h = go w.ys w.walk
+    where
+      go : (ys : List Listed) → Walk E n total dead all t low row turn last head kept w.zs ys → (x : Listed) × (ys : List Listed) × Walk E n total dead all t low row turn last head kept w.zs (x ∷ ys)
+      go [] v = absurd (omega (arith, v.turns))
+      go (x ∷ ys) v = (x, ys, v)
+
   pub walk_row : Walked E n total dead all t low row turn last head kept → turn < total → row < n
-  walk_row (zs, [], w) h = absurd (omega (arith, w.turns))
-  walk_row (zs, x ∷ ys, w) h = (here zs x ys w).in_table
+  walk_row w h = let (x, ys, v) = before_end w h in (here w.zs x ys v).in_table
 
   pub walk_small : Walked E n total dead all t low row turn last head kept → turn < total → word t row 7 < most_rows
-  walk_small (zs, [], w) h = absurd (omega (arith, w.turns))
-  walk_small (zs, x ∷ ys, w) h = (here zs x ys w).small
+  walk_small w h = let (x, ys, v) = before_end w h in (here w.zs x ys v).small
 
   pub walk_long : Walked E n total dead all t low row turn last head kept → length t ≡ 8 * n
-  walk_long (zs, ys, w) = w.written.long
+  walk_long w = w.walk.written.long
 
   pub walk_as : {t' low' : List ℕ} {row' last' head' kept' : ℕ} → t' ≡ t → low' ≡ low → row' ≡ row → last' ≡ last → head' ≡ head → kept' ≡ kept
       → Walked E n total dead all t low row turn last head kept → Walked E n total dead all t' low' row' turn last' head' kept'
   walk_as a b c d e f w = rw (a, b, c, d, e, f) w
 
   pub walk_fit : Walked E n total dead all t low row turn last head kept → kept ≤ total
-  walk_fit (zs, ys, w) = omega (arith, w.fit, w.turns)
+  walk_fit w = omega (arith, w.walk.fit, w.walk.turns)
 
-  abbrev level : ℕ
-  level = get_or low (word t row 7) 0
+  module _ (zs : List Listed) (x : Listed) (ys : List Listed) (w : Walk E n total dead all t low row turn last head kept zs (x ∷ ys)) where
+    p : Here E n t row x ys
+    p = here zs x ys w
 
-  pub walk_drop : Walked E n total dead all t low row turn last head kept → turn < total → dead row ≡ true
-      → Walked E n total dead all (unlinked t row last (word t row 5)) (set low (word t row 7 + 1) (get_or low (word t row 7) 0)) (word t row 5) (turn + 1) last head kept
-  walk_drop (zs, [], w) h gone = absurd (omega (arith, w.turns))
-  walk_drop (zs, x ∷ ys, w) h gone =
-      let p = here zs x ys w in (
-        zs,
-        ys,
+    drop_one : dead row ≡ true → Walk E n total dead all (unlinked t row last (word t row 5)) (set low (word t row 7 + 1) (get_or low (word t row 7) 0)) (word t row 5) (turn + 1) last head kept zs ys
+    drop_one gone =
         record {
           room = w.room;
           written =
@@ -141,33 +150,30 @@ module _ (E : Edition) (n total : ℕ) (dead : ℕ → Bool) (all : List Listed)
           few = w.few;
           deep = omega (arith, w.steps.0, w.deep);
           fit = omega (arith, w.fit);
-          wide = length-set low (word t row 7 + 1) level ∙ w.wide;
-          shallow = set_most low (word t row 7 + 1) level kept (omega (arith, w.wide, p.small)) (w.shallow (word t row 7)) w.shallow;
-          rest = ap (λ (l : List Listed). zs ++ l) (thin p w) ∙ w.rest;
-        },
-      )
-    where
-      thin : Here zs x ys → Walk E n total dead all t low row turn last head kept zs (x ∷ ys)
-          → thinned dead (λ j. get_or (set low (word t row 7 + 1) level) j 0) ys ≡ thinned dead (λ j. get_or low j 0) (x ∷ ys)
-      thin p w = unfold thinned in
-          rw (ap dead p.is_row ∙ gone)
-          (ap (λ (f : ℕ → ℕ). thinned dead f ys) (lows low (word t row 7 + 1) level (omega (arith, w.wide, p.small)) ∙ ap (λ (d : ℕ). at (λ j. get_or low j 0) (d + 1) (get_or low d 0)) p.depth))
+          wide = length-set low (word t row 7 + 1) (level t low row) ∙ w.wide;
+          shallow = set_most low (word t row 7 + 1) (level t low row) kept (omega (arith, w.wide, p.small)) (w.shallow (word t row 7)) w.shallow;
+          rest = ap (λ (l : List Listed). zs ++ l) thin ∙ w.rest;
+        }
+      where
+        thin : thinned dead (λ j. get_or (set low (word t row 7 + 1) (level t low row)) j 0) ys ≡ thinned dead (λ j. get_or low j 0) (x ∷ ys)
+        thin = unfold thinned in
+            rw (ap dead p.is_row ∙ gone)
+            (ap (λ (f : ℕ → ℕ). thinned dead f ys) (lows low (word t row 7 + 1) (level t low row) (omega (arith, w.wide, p.small)) ∙ ap (λ (d : ℕ). at (λ j. get_or low j 0) (d + 1) (get_or low d 0)) p.depth))
 
-  pub walk_keep : Walked E n total dead all t low row turn last head kept → turn < total → dead row ≡ false
-      → Walked E n total dead all (set t (row * 8 + 7) (get_or low (word t row 7) 0)) (set low (word t row 7 + 1) (get_or low (word t row 7) 0 + 1)) (word t row 5) (turn + 1) row (cond (eqb kept 0) row head) (kept + 1)
-  walk_keep (zs, [], w) h stays = absurd (omega (arith, w.turns))
-  walk_keep (zs, x ∷ ys, w) h stays =
-      let p = here zs x ys w in
-      let y : Listed = record { entry = x.entry; depth = level } in
-      let same_rows : rows_in (zs ++ x ∷ ys) ≡ rows_in ((zs ++ (y ∷ [])) ++ ys) = rows_middle zs x y ys refl ∙ ap rows_in (sym (snoc zs y ys)) in (
-        zs ++ (y ∷ []),
-        ys,
+    abbrev y : Listed
+    y = record { entry = x.entry; depth = level t low row }
+
+    same_rows : rows_in (zs ++ x ∷ ys) ≡ rows_in ((zs ++ (y ∷ [])) ++ ys)
+    same_rows = rows_middle zs x y ys refl ∙ ap rows_in (sym (snoc zs y ys))
+
+    keep_one : dead row ≡ false → Walk E n total dead all (set t (row * 8 + 7) (get_or low (word t row 7) 0)) (set low (word t row 7 + 1) (get_or low (word t row 7) 0 + 1)) (word t row 5) (turn + 1) row (cond (eqb kept 0) row head) (kept + 1) (zs ++ (y ∷ [])) ys
+    keep_one stays =
         record {
           room = w.room;
           written =
-              subst (λ (l : List Listed). Written E n (set t (row * 8 + 7) level) l) (sym (snoc zs y ys))
-              (subst (λ (j : ℕ). Written E n (set t (j * 8 + 7) level) (zs ++ y ∷ ys)) p.is_row
-              (depth_written E n w.room t zs x ys level w.below w.distinct w.written));
+              subst (λ (l : List Listed). Written E n (set t (row * 8 + 7) (level t low row)) l) (sym (snoc zs y ys))
+              (subst (λ (j : ℕ). Written E n (set t (j * 8 + 7) (level t low row)) (zs ++ y ∷ ys)) p.is_row
+              (depth_written E n w.room t zs x ys (level t low row) w.below w.distinct w.written));
           distinct = subst Distinct same_rows w.distinct;
           below = subst (All (λ k. k < n)) same_rows w.below;
           row_is = p.next;
@@ -180,26 +186,33 @@ module _ (E : Edition) (n total : ℕ) (dead : ℕ → Bool) (all : List Listed)
           few = w.few;
           deep = omega (arith, w.steps.0, w.deep);
           fit = omega (arith, w.fit);
-          wide = length-set low (word t row 7 + 1) (level + 1) ∙ w.wide;
-          shallow = set_most low (word t row 7 + 1) (level + 1) (kept + 1) (omega (arith, w.wide, p.small)) (omega (arith, w.shallow (word t row 7))) (λ j. omega (arith, w.shallow j));
-          rest = snoc zs y (thinned dead (λ j. get_or (set low (word t row 7 + 1) (level + 1)) j 0) ys) ∙ ap (λ (l : List Listed). zs ++ l) (thin p w) ∙ w.rest;
-        },
-      )
-    where
-      thin : Here zs x ys → Walk E n total dead all t low row turn last head kept zs (x ∷ ys)
-          → record { entry = x.entry; depth = level } ∷ thinned dead (λ j. get_or (set low (word t row 7 + 1) (level + 1)) j 0) ys ≡ thinned dead (λ j. get_or low j 0) (x ∷ ys)
-      thin p w = unfold thinned in
-          rw (ap dead p.is_row ∙ stays)
-          (λ i. record { entry = x.entry; depth = get_or low (p.depth i) 0 }
-          ∷ (ap (λ (f : ℕ → ℕ). thinned dead f ys) (lows low (word t row 7 + 1) (level + 1) (omega (arith, w.wide, p.small)) ∙ ap (λ (d : ℕ). at (λ j. get_or low j 0) (d + 1) (get_or low d 0 + 1)) p.depth)) i)
+          wide = length-set low (word t row 7 + 1) (level t low row + 1) ∙ w.wide;
+          shallow = set_most low (word t row 7 + 1) (level t low row + 1) (kept + 1) (omega (arith, w.wide, p.small)) (omega (arith, w.shallow (word t row 7))) (λ j. omega (arith, w.shallow j));
+          rest = snoc zs y (thinned dead (λ j. get_or (set low (word t row 7 + 1) (level t low row + 1)) j 0) ys) ∙ ap (λ (l : List Listed). zs ++ l) thin ∙ w.rest;
+        }
+      where
+        thin : record { entry = x.entry; depth = level t low row } ∷ thinned dead (λ j. get_or (set low (word t row 7 + 1) (level t low row + 1)) j 0) ys ≡ thinned dead (λ j. get_or low j 0) (x ∷ ys)
+        thin = unfold thinned in
+            rw (ap dead p.is_row ∙ stays)
+            (λ i. record { entry = x.entry; depth = get_or low (p.depth i) 0 }
+          ∷ (ap (λ (f : ℕ → ℕ). thinned dead f ys) (lows low (word t row 7 + 1) (level t low row + 1) (omega (arith, w.wide, p.small)) ∙ ap (λ (d : ℕ). at (λ j. get_or low j 0) (d + 1) (get_or low d 0 + 1)) p.depth)) i)
+
+  pub walk_drop : Walked E n total dead all t low row turn last head kept → turn < total → dead row ≡ true → Walked E n total dead all (unlinked t row last (word t row 5)) (set low (word t row 7 + 1) (get_or low (word t row 7) 0)) (word t row 5) (turn + 1) last head kept
+  walk_drop w h gone = let (x, ys, v) = before_end w h in record { zs = w.zs; ys = ys; walk = drop_one w.zs x ys v gone }
+
+  pub walk_keep : Walked E n total dead all t low row turn last head kept → turn < total → dead row ≡ false → Walked E n total dead all (set t (row * 8 + 7) (get_or low (word t row 7) 0)) (set low (word t row 7 + 1) (get_or low (word t row 7) 0 + 1)) (word t row 5) (turn + 1) row (cond (eqb kept 0) row head) (kept + 1)
+  walk_keep w h stays = let (x, ys, v) = before_end w h in record { zs = w.zs ++ (y w.zs x ys v ∷ []); ys = ys; walk = keep_one w.zs x ys v stays }
 
   -- at the end of the list
   pub walk_end : Walked E n total dead all t low row turn last head kept → total ≤ turn → (t ≡ rows_from E all 0 n) × (head ≡ first_of E all) × (kept ≡ length all)
   unfolding thinned
-  walk_end (zs, x ∷ ys, w) h = absurd (omega (arith, w.turns))
-  walk_end (zs, [], w) h =
-      let e : zs ≡ all = sym (append-nil zs) ∙ w.rest in (
-        written_is E n t (zs ++ []) w.written ∙ ap (λ (l : List Listed). rows_from E l 0 n) w.rest,
-        w.head_is ∙ ap (first_of E) e,
-        w.kept_is ∙ ap length e,
-      )
+  walk_end walked h = go walked.zs walked.ys walked.walk
+    where
+      go : (zs ys : List Listed) → Walk E n total dead all t low row turn last head kept zs ys → (t ≡ rows_from E all 0 n) × (head ≡ first_of E all) × (kept ≡ length all)
+      go zs (x ∷ ys) w = absurd (omega (arith, w.turns))
+      go zs [] w =
+          let e : zs ≡ all = sym (append-nil zs) ∙ w.rest in (
+            written_is E n t (zs ++ []) w.written ∙ ap (λ (l : List Listed). rows_from E l 0 n) w.rest,
+            w.head_is ∙ ap (first_of E) e,
+            w.kept_is ∙ ap length e,
+          )

@@ -19,11 +19,6 @@ names cap c k = is_cnode (cap k) && eqb (first_row edition32 (cap k)) c
 unfoldable pub still_names : (ℕ → Cap) → (mark : List Bool) → (c k : ℕ) → Bool
 still_names cap mark c k = names cap c k && not (marked mark k)
 
--- an array of zeros
-pub record Zeros (n : ℕ) (xs : List ℕ) : Type 0 where
-  pub long : length xs ≡ n
-  pub zero_at : (j : ℕ) → get_or xs j 0 ≡ 0
-
 -- of the rows below n, how many name each CNode
 pub record Tally (cap : ℕ → Cap) (counts : List ℕ) (n : ℕ) : Type 0 where
   pub long : length counts ≡ most_rows

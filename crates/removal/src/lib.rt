@@ -19,6 +19,7 @@ use survivors::thin;
 use table::word;
 
 // The marked rows go, with all that follows; how many went.
+#[tactic(auto, using(crate::proofs::Removed::sweeps))]
 fn sweep(t: &mut [u32], control: &mut [u32; 4], going: &mut Marking) -> u32
     requires formed { well_formed edition32 (lent t.old control.old) ≡ true }
     requires counted { marking.Counted t.old going.old }

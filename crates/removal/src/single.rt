@@ -6,6 +6,7 @@ ghost use Rattle.model.specs.Rules.{well_formed};
 ghost use Rattle.removal.specs.Marking as marking;
 ghost use Rattle.removal.specs.Removing as removing;
 
+use crate::following::row_count;
 use model::{CNODE, NONE, Row};
 use table::caps::same_object;
 use table::stores::{put, unlink};
@@ -18,8 +19,7 @@ fn also_names(t: &[u32], row: Row, other: u32) -> bool
     requires few { marking.row_count t.now ≤ most_rows }
     ensures { result ≡ removing.also_names (cap_of t.now) (marking.row_count t.now) row.0 other }
 {
-    let rows = (t.len() / 8) as u32;
-    other < rows && other != row.0 && same_object(cap_at(t, row), cap_at(t, Row(other)))
+    other < row_count(t) && other != row.0 && same_object(cap_at(t, row), cap_at(t, Row(other)))
 }
 
 // Another row names the object that a row names. A copy stands beside its source in the list, so the rows beside are asked first.
@@ -28,13 +28,20 @@ fn named_elsewhere(t: &[u32], row: Row) -> bool
     requires few { marking.row_count t.now ≤ most_rows }
     ensures { result ≡ removing.named_elsewhere (cap_of t.now) (marking.row_count t.now) row.0 }
 {
-    let rows = (t.len() / 8) as u32;
     also_names(t, row, word(t, row, 6))
         || also_names(t, row, word(t, row, 5))
-        || (0..rows).any(|other| also_names(t, row, other))
+        || (0..row_count(t)).any(|other| also_names(t, row, other))
 }
 
 // Nothing follows a row that names no CNode, or a CNode that another row names too.
+#[tactic(
+    auto,
+    unfolding(
+        crate::specs::Removing::goes_alone,
+        model::specs::Cap::is_cnode,
+        model::specs::Tables::cap_of
+    )
+)]
 pub fn goes_alone(t: &[u32], row: Row) -> bool
     requires inside { row.0 < marking.row_count t.now }
     requires few { marking.row_count t.now ≤ most_rows }

@@ -22,4 +22,4 @@ returns-then-also_names-2 c =
 pub returns-else-also_names-2 : goal.returns-else-also_names-2
 returns-else-also_names-2 c =
     let n = row_count c.args.t.now in
-    looked_for _ _ _ _ (any_from_yields_List (also_names (cap_of c.args.t.now) n c.args.row.0) _ _ _ c.any.ensures.ran (YieldsList-from_range 0 n n refl (omega arith)) (λ x b q k. search rules))
+    looked_for _ _ _ _ (any_from_yields_List (also_names (cap_of c.args.t.now) n c.args.row.0) _ _ _ c.any.ensures.ran (YieldsList-from_range 0 _ n refl (omega (arith, c.row_count.ensures))) (λ x b q k. search rules))

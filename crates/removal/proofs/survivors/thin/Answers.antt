@@ -15,11 +15,11 @@ use Rattle.removal.proofs.survivors.thin.Goals.{In-loop, After-word-deep, then-m
 
 -- in a turn the row is in the table
 in_table : (c : In-loop) → c.loop.row * 8 + 8 ≤ length c.loop.t
-in_table c = omega (arith, walk_row _ _ _ _ _ _ _ _ _ _ _ _ c.loop.invariant c.loop-test.true, walk_long _ _ _ _ _ _ _ _ _ _ _ _ c.loop.invariant)
+in_table c = omega (arith, walk_row c.loop.invariant c.loop-test.true, walk_long c.loop.invariant)
 
 -- and its depth has a place in `low`
 depth_small : (c : After-word-deep) → c.word-deep.result < most_rows
-depth_small c = omega (arith, c.word-deep.ensures, walk_small _ _ _ _ _ _ _ _ _ _ _ _ c.loop.invariant c.loop-test.true)
+depth_small c = omega (arith, c.word-deep.ensures, walk_small c.loop.invariant c.loop-test.true)
 
 pub loop-init : goal.loop-init
 loop-init c = walk_start _ c.requires _ _ (zeros (most_rows + 1))
@@ -34,7 +34,7 @@ pub bounds-low-depth : goal.bounds-low-depth
 bounds-low-depth c = omega (arith, depth_small (goal.at.bounds-low-depth c).After-word-deep)
 
 pub bounds-mark-row : goal.bounds-mark-row
-bounds-mark-row c = omega (arith, walk_row _ _ _ _ _ _ _ _ _ _ _ _ c.loop.invariant c.loop-test.true, rows_small _ c.requires)
+bounds-mark-row c = omega (arith, walk_row c.loop.invariant c.loop-test.true, rows_small _ c.requires)
 
 pub unlink-requires : goal.unlink-requires
 unlink-requires c = in_table (goal.at.unlink-requires c).In-loop
@@ -58,17 +58,17 @@ loop-preserved c =
     let next = c.word-next.ensures in
     elim c.if-mark-row.branch [
       | then-mark-row w ↦
-          walk_as _ _ _ _ _ _ _ _ _ _ _ _ (w.t-is ∙ w.unlink.ensures ∙ ap (unlinked v k c.loop.last) next) (w.low-is ∙ ap (λ d. set low (d + 1) (get_or low d 0)) c.word-deep.ensures) next w.last-is w.head-is w.kept-is
-          (walk_drop _ _ _ _ _ _ _ _ _ _ _ _ i more w.if-mark-row.true)
+          walk_as (w.t-is ∙ w.unlink.ensures ∙ ap (unlinked v k c.loop.last) next) (w.low-is ∙ ap (λ d. set low (d + 1) (get_or low d 0)) c.word-deep.ensures) next w.last-is w.head-is w.kept-is
+          (walk_drop i more w.if-mark-row.true)
       | else-mark-row w ↦
-          walk_as _ _ _ _ _ _ _ _ _ _ _ _ (w.t-is ∙ w.put.ensures ∙ ap (λ d. set v (k * 8 + 7) (get_or low d 0)) c.word-deep.ensures) (w.low-is ∙ ap (λ d. set low (d + 1) (get_or low d 0 + 1)) c.word-deep.ensures) next w.last-is
+          walk_as (w.t-is ∙ w.put.ensures ∙ ap (λ d. set v (k * 8 + 7) (get_or low d 0)) c.word-deep.ensures) (w.low-is ∙ ap (λ d. set low (d + 1) (get_or low d 0 + 1)) c.word-deep.ensures) next w.last-is
           (w.head-is
           ∙ elim w.if-kept-eq0.branch [
             | then-kept-eq0 x ↦ rw (x.if-kept-eq0.true) x.head-is
             | else-kept-eq0 x ↦ rw (ne_eqb _ _ x.if-kept-eq0.false) x.head-is
           ])
           w.kept-is
-          (walk_keep _ _ _ _ _ _ _ _ _ _ _ _ i more w.if-mark-row.false)
+          (walk_keep i more w.if-mark-row.false)
     ]
 
 pub returns : goal.returns

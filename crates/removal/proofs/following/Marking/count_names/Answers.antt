@@ -9,13 +9,13 @@ use Rattle.removal.proofs.following.Marking.count_names.Goals.{else-cap-eq-CNODE
 
 -- the CNode that the row names has its first row in the table
 small : (c : After-row_of-first) → c.row_of-first.result.0 < most_rows
-small c = first_small _ _ _ c.cap_at-cap.ensures _ c.row_of-first.ensures c.requires.nodes c.loop-row-test.true c.if-cap-eq-CNODE.true
+small c = first_small _ _ _ c.cap_at-cap.ensures _ c.row_of-first.ensures c.requires.nodes (omega (arith, c.loop-row-test.true, c.row_count-row-end.ensures)) c.if-cap-eq-CNODE.true
 
 pub bounds-self-first : goal.bounds-self-first
 bounds-self-first c = small (goal.at.bounds-self-first c).After-row_of-first
 
 pub overflow_add-self : goal.overflow_add-self
-overflow_add-self c = omega (arith, tally_few _ _ _ c.loop-row.invariant _ (small (goal.at.overflow_add-self c).After-row_of-first), c.loop-row-test.true, c.requires.nodes.few)
+overflow_add-self c = omega (arith, tally_few _ _ _ c.loop-row.invariant _ (small (goal.at.overflow_add-self c).After-row_of-first), c.loop-row-test.true, c.row_count-row-end.ensures, c.requires.nodes.few)
 
 pub bounds-self-first-then-cap-eq-CNODE : goal.bounds-self-first-then-cap-eq-CNODE
 bounds-self-first-then-cap-eq-CNODE c = small (goal.at.bounds-self-first-then-cap-eq-CNODE c).After-row_of-first
@@ -27,6 +27,6 @@ loop-row-preserved c =
       | then-cap-eq-CNODE w ↦
           let kind = w.if-cap-eq-CNODE.true in
           let is = w.row_of-first.ensures in
-          rw w.self-is (started_node _ _ _ c.loop-row.invariant _ (first_small _ _ _ known _ is c.requires.nodes c.loop-row-test.true kind) (node_of _ _ _ known kind) (first_of _ _ _ known _ is))
+          rw w.self-is (started_node _ _ _ c.loop-row.invariant _ (first_small _ _ _ known _ is c.requires.nodes (omega (arith, c.loop-row-test.true, c.row_count-row-end.ensures)) kind) (node_of _ _ _ known kind) (first_of _ _ _ known _ is))
       | else-cap-eq-CNODE w ↦ rw w.self-is (started_plain _ _ _ c.loop-row.invariant (plain_of _ _ _ known w.if-cap-eq-CNODE.false))
     ]
