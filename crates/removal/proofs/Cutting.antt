@@ -8,10 +8,9 @@ use native.Mathlib.Omega.{arith}
 use native.Mathlib.Numerals.{sub-one}
 use lib.Dec.{eqb}
 use lib.ListN.{get_or, length, set}
-use Rattle.model.specs.declared.Cap.{Cap}
 use Rattle.model.specs.Edition.{edition32}
 use Rattle.model.specs.Lists.{any, member}
-use Rattle.model.specs.Cap.{is_empty, is_cnode, same_object, houses}
+use Rattle.model.specs.Cap.{is_empty, is_cnode, same_object}
 use Rattle.model.specs.Tree.{Entry, Forest, end, tree, entries, cap_at, stays, goes, edit, put, leaves, without}
 use Rattle.model.specs.Stores.{unlinked}
 use Rattle.model.specs.Tables.{Tables, rows, word, cap_of, listing, read, write}
@@ -19,7 +18,6 @@ use Rattle.model.specs.Rules.{well_formed}
 use Rattle.model.specs.Removal.{removed}
 use Rattle.model.specs.Operations.{remove}
 use Rattle.model.specs.Request.{applied}
-use Rattle.model.proofs.Booleans.{and_left}
 use Rattle.model.proofs.Members.{Has, has_member, member_has}
 use Rattle.model.proofs.State.{Fits}
 use Rattle.model.proofs.Words.WellFormed.{roomy32, write_read, good_read, good_fits}

@@ -1,5 +1,5 @@
 -- A walk along the rows below a row: what is to come of them, and what comes after them.
-use Prim.Native.Nat.{ℕ, ◌+◌, ◌-◌, ◌≤◌, ◌<◌}
+use Prim.Native.Nat.{ℕ, ◌+◌, ◌≤◌, ◌<◌}
 use mathlib.Core.Path.{◌≡◌, refl, sym, ap, ◌∙◌, subst}
 use mathlib.Core.Bool.{Bool, true, false, not, ◌||◌}
 use mathlib.Core.List.{List, [], ◌∷◌, ◌++◌, map, map-map}
@@ -20,8 +20,7 @@ use Rattle.model.proofs.Distinct.{Distinct}
 use Rattle.model.proofs.State.{rows_of}
 use Rattle.model.proofs.Kept.Forests.{at_has, row_below}
 use Rattle.model.proofs.Kept.Rules.{entry_at, vacant_none}
-use Rattle.model.proofs.Words.Rows.{row_at, rows_in, Holds, Written}
-use Rattle.model.proofs.Words.Listing.{Low}
+use Rattle.model.proofs.Words.Rows.{row_at, rows_in, Written}
 use Rattle.model.proofs.Words.WellFormed.{Formed, formed, formed_distinct, formed_written, roomy32, list_in}
 use Rattle.model.proofs.Words.Linking.{middle_below, next_is_lem, depth_is}
 use Rattle.model.proofs.Words.Runs.{raised_run}

@@ -8,11 +8,11 @@ use lib.ListN.{get_or}
 use borrow.Author.Tests.{leb-true, leb-false, eq-eqb, ne_eqb}
 use Rattle.model.specs.declared.Cap.{Cap}
 use Rattle.model.specs.Edition.{edition32}
-use Rattle.model.specs.Cap.{is_empty, is_untyped, is_cnode, first_row, slots, limit, same_object, houses}
+use Rattle.model.specs.Cap.{is_empty, is_untyped, is_cnode, first_row, slots, limit, same_object}
 use Rattle.model.specs.Tree.{Forest, entries, cap_at}
 use Rattle.model.specs.Tables.{Tables, rows, word, cap_of, read}
 use Rattle.model.specs.Rules.{well_formed}
-use Rattle.model.proofs.Booleans.{either, and_left}
+use Rattle.model.proofs.Booleans.{either}
 use Rattle.model.proofs.State.{Sound}
 use Rattle.model.proofs.Words.WellFormed.{roomy32, good_read}
 use Rattle.model.proofs.Words.Caps.{caps_read}

@@ -1,7 +1,6 @@
 -- One row by itself: a walk along the rows below it that puts each one up.
 use Prim.Native.Nat.{ℕ, ◌+◌, ◌-◌, ◌*◌, ◌<◌}
 use mathlib.Core.Path.{◌≡◌, refl, sym, ap, ◌∙◌, subst}
-use mathlib.Core.Bool.{true, false}
 use mathlib.Core.List.{List, [], ◌∷◌, ◌++◌}
 use native.Mathlib.Omega.{arith}
 use lib.ListN.{length, set, length-set}
@@ -12,7 +11,7 @@ use Rattle.model.proofs.Distinct.{Distinct}
 use Rattle.model.proofs.Words.Rows.{row_at, rows_in, Holds, holds_change}
 use Rattle.model.proofs.Words.Stores.{row_set_other}
 use Rattle.model.proofs.Words.Runs.{raised_run}
-use Rattle.removal.proofs.Ahead.{Ahead, first_depth, ahead_as, ahead_none, ahead_step}
+use Rattle.removal.proofs.Ahead.{Ahead, first_depth, ahead_none, ahead_step}
 
 pub run_long : (t : List ℕ) (us : List Listed) → length (raised_run t us) ≡ length t
 run_long t [] = refl

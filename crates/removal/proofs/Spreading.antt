@@ -41,9 +41,6 @@ pub record Spreading (t : List ℕ) (mark₀ : List Bool) (m : Marking) (taken :
   pub waiting : Waiting t m taken
   pub growing : Growing (row_count t) (cap_of t) mark₀ m.mark
 
-pub spreading_start : {t : List ℕ} {m : Marking} → Counted t m → Waiting t m 0 → Spreading t m.mark m 0
-spreading_start h w = record { counted = h; waiting = w; growing = record { holds = λ k u. u; least = λ S closed s k u. s k u } }
-
 module _ (t : List ℕ) (mark₀ : List Bool) (m : Marking) (taken : ℕ) (s : Spreading t mark₀ m taken) where
   abbrev n : ℕ
   n = row_count t
@@ -59,7 +56,7 @@ module _ (t : List ℕ) (mark₀ : List Bool) (m : Marking) (taken : ℕ) (s : S
     abbrev node : ℕ
     node = get_or m.work taken 0
 
-    pub lost : Lost n cap m.counts node
+    lost : Lost n cap m.counts node
     lost = s.waiting.lost taken (omega arith) more
 
     names_of : (k : ℕ) → same_object (cap node) (cap k) ≡ true → names cap (first_row edition32 (cap node)) k ≡ true

@@ -6,9 +6,8 @@ use mathlib.Core.List.{List}
 use native.Mathlib.Omega.{arith}
 use borrow.Author.Tests.{eq-eqb}
 use Rattle.model.specs.declared.Cap.{Cap}
-use Rattle.model.specs.Edition.{edition32, most_rows}
+use Rattle.model.specs.Edition.{edition32}
 use Rattle.model.specs.Cap.{is_cnode, first_row}
-use Rattle.model.specs.Lists.{count}
 use Rattle.model.specs.Tables.{cap_of}
 use Rattle.model.proofs.Distinct.{count_same, count_zero}
 use Rattle.model.proofs.Kept.Allowed.{some_slot}

@@ -62,24 +62,24 @@ module _ (t : Tables) (well : well_formed edition32 t ≡ true) where
         zs = [];
         ys = list_in edition32 t;
         walk = record {
-      room = form.room;
-      written = formed_written edition32 t (list_in edition32 t) form;
-      distinct = formed_distinct edition32 t (list_in edition32 t) form;
-      below = all_map (rows_in (list_in edition32 t)) (λ k h. h.0) form.chained.taken;
-      row_is = sym form.chained.first;
-      turns = omega (arith, form.chained.long);
-      last_is = refl;
-      head_is = refl;
-      kept_is = refl;
-      most = 0;
-      steps = form.chained.steps;
-      few = omega (arith, form.counted, count_most (λ k. not (is_empty (cap_of t.table k))) (rows_of_tables t), rows_small);
-      deep = omega arith;
-      fit = omega arith;
-      wide = z.long;
-      shallow = λ j. omega (arith, z.zero_at j);
-      rest = refl;
-    };
+          room = form.room;
+          written = formed_written edition32 t (list_in edition32 t) form;
+          distinct = formed_distinct edition32 t (list_in edition32 t) form;
+          below = all_map (rows_in (list_in edition32 t)) (λ k h. h.0) form.chained.taken;
+          row_is = sym form.chained.first;
+          turns = omega (arith, form.chained.long);
+          last_is = refl;
+          head_is = refl;
+          kept_is = refl;
+          most = 0;
+          steps = form.chained.steps;
+          few = omega (arith, form.counted, count_most (λ k. not (is_empty (cap_of t.table k))) (rows_of_tables t), rows_small);
+          deep = omega arith;
+          fit = omega arith;
+          wide = z.long;
+          shallow = λ j. omega (arith, z.zero_at j);
+          rest = refl;
+        };
       }
 
   module _ (mark : List Bool) (start low : List ℕ) (z : Zeros (most_rows + 1) start) (row turn last head kept : ℕ) (u : List ℕ)

@@ -1,5 +1,5 @@
 -- A walk along the list: what is passed is thinned, what is to come is as it was, and at each step the table is the one written for both.
-use Prim.Native.Nat.{ℕ, suc, ◌+◌, ◌-◌, ◌*◌, ◌≤◌, ◌<◌}
+use Prim.Native.Nat.{ℕ, suc, ◌+◌, ◌*◌, ◌≤◌, ◌<◌}
 use mathlib.Core.Path.{◌≡◌, refl, sym, ap, ◌∙◌, subst}
 use mathlib.Core.Bool.{Bool, true, false, cond}
 use mathlib.Core.List.{List, [], ◌∷◌, ◌++◌, append-nil}
@@ -195,7 +195,7 @@ module _ {E : Edition} {n total : ℕ} {dead : ℕ → Bool} {all : List Listed}
         thin = unfold thinned in
             rw (ap dead p.is_row ∙ stays)
             (λ i. record { entry = x.entry; depth = get_or low (p.depth i) 0 }
-          ∷ (ap (λ (f : ℕ → ℕ). thinned dead f ys) (lows low (word t row 7 + 1) (level t low row + 1) (omega (arith, w.wide, p.small)) ∙ ap (λ (d : ℕ). at (λ j. get_or low j 0) (d + 1) (get_or low d 0 + 1)) p.depth)) i)
+            ∷ (ap (λ (f : ℕ → ℕ). thinned dead f ys) (lows low (word t row 7 + 1) (level t low row + 1) (omega (arith, w.wide, p.small)) ∙ ap (λ (d : ℕ). at (λ j. get_or low j 0) (d + 1) (get_or low d 0 + 1)) p.depth)) i)
 
   pub walk_drop : Walked E n total dead all t low row turn last head kept → turn < total → dead row ≡ true → Walked E n total dead all (unlinked t row last (word t row 5)) (set low (word t row 7 + 1) (get_or low (word t row 7) 0)) (word t row 5) (turn + 1) last head kept
   walk_drop w h gone = let (x, ys, v) = before_end w h in record { zs = w.zs; ys = ys; walk = drop_one w.zs x ys v gone }

@@ -34,14 +34,7 @@ fn named_elsewhere(t: &[u32], row: Row) -> bool
 }
 
 // Nothing follows a row that names no CNode, or a CNode that another row names too.
-#[tactic(
-    auto,
-    unfolding(
-        crate::specs::Removing::goes_alone,
-        model::specs::Cap::is_cnode,
-        model::specs::Tables::cap_of
-    )
-)]
+#[tactic(auto, unfolding(crate::specs::Removing::goes_alone, model::specs::Cap::is_cnode, model::specs::Tables::cap_of))]
 pub fn goes_alone(t: &[u32], row: Row) -> bool
     requires inside { row.0 < marking.row_count t.now }
     requires few { marking.row_count t.now ≤ most_rows }

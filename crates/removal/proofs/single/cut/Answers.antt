@@ -35,10 +35,10 @@ returns c =
     let last = c.word-last.ensures in
     let next = c.word-next.ensures in
     let head : c.if-last.control ≡ cond (eqb c.word-last.result 4294967295) c.word-next.result (get_or c.args.control.now 2 0) =
-        elim c.if-last.branch [
-          | then-last w ↦ rw (w.if-last.true) w.control-is
-          | else-last w ↦ rw (ne_eqb _ _ w.if-last.false) w.control-is
-        ]
+    elim c.if-last.branch [
+      | then-last w ↦ rw (w.if-last.true) w.control-is
+      | else-last w ↦ rw (ne_eqb _ _ w.if-last.false) w.control-is
+    ]
     in
     ap₂ lent
     (c.unlink.ensures ∙ (λ j. unlinked (c.raise_descendants.ensures.is p j) c.args.row.0 (last j) (next j)))

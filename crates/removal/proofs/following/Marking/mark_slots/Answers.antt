@@ -1,6 +1,6 @@
 -- `removal::Marking::mark_slots` meets its contract. The loop's invariant: the occupied rows from the first slot up to `row` are marked
 -- besides. Assumes nothing.
-use Prim.Native.Nat.{ℕ, ◌+◌, ◌*◌, ◌%◌, ◌^◌, ◌≤◌, ◌<◌}
+use Prim.Native.Nat.{◌+◌, ◌*◌, ◌%◌, ◌^◌, ◌≤◌}
 use mathlib.Core.Path.{◌≡◌, ap}
 use native.Mathlib.Omega.{arith}
 use Rattle.model.specs.Edition.{edition32, most_rows}
