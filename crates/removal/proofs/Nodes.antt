@@ -5,12 +5,12 @@ use mathlib.Core.Bool.{Bool, true, false}
 use native.Mathlib.Omega.{arith}
 use lib.Dec.{leb}
 use lib.ListN.{get_or}
-use borrow.Author.Tests.{leb-true, leb-false, eq-eqb, ne_eqb}
+use borrow.Author.Tests.{leb-true, leb-false}
 use Rattle.model.specs.declared.Cap.{Cap}
 use Rattle.model.specs.Edition.{edition32}
 use Rattle.model.specs.Cap.{is_empty, is_untyped, is_cnode, first_row, slots, limit, same_object}
 use Rattle.model.specs.Tree.{Forest, entries, cap_at}
-use Rattle.model.specs.Tables.{Tables, rows, word, cap_of, read}
+use Rattle.model.specs.Tables.{Tables, rows, cap_of, read}
 use Rattle.model.specs.Rules.{well_formed}
 use Rattle.model.proofs.Booleans.{either}
 use Rattle.model.proofs.State.{Sound}
@@ -25,6 +25,7 @@ use Rattle.model.proofs.Kept.Allowed.{cnode_filled, cnode_typed, some_slot, slot
 use Rattle.model.proofs.Words.Bounds.{rows_small, table_long_lem}
 use Rattle.removal.specs.Marking.{Nodes, ClosedRows, row_count}
 use Rattle.removal.proofs.Tables.{rows_of_tables}
+use Rattle.removal.proofs.AtHand.{tested}
 
 -- the bytes that two CNodes with the same first row have in common
 limit_cnode : (c : Cap) → is_cnode c ≡ true → c.address.0 + 16 ≤ limit edition32 c
@@ -91,11 +92,6 @@ module _ (t : Tables) (well : well_formed edition32 t ≡ true) where
         alike = λ j k bj bk tj tk e. alike sound j k tj tk e;
       })
 
-  -- a row's first word says what it holds
-  pub empty_at : (k w : ℕ) → w ≡ word t.table k 0 → w ≡ 0 → is_empty (cap_at (read edition32 t).forest k) ≡ true
-  unfolding is_empty cap_of
-  empty_at k w e z = ap (λ g. is_empty (g k)) (sym caps) ∙ eq-eqb (word t.table k 0) 0 (sym e ∙ z)
-
-  pub there_at : (k w : ℕ) → w ≡ word t.table k 0 → (w ≡ 0 → ⊥) → is_empty (cap_at (read edition32 t).forest k) ≡ false
-  unfolding is_empty cap_of
-  there_at k w e z = ap (λ g. is_empty (g k)) (sym caps) ∙ ne_eqb (word t.table k 0) 0 (λ q. z (e ∙ q))
+  -- what a test of a row's capability finds holds of it in the tree
+  pub found_at : (k : ℕ) {cap : Cap} → cap ≡ cap_of t.table k → {found b : Bool} → found ≡ is_empty cap → found ≡ b → is_empty (cap_at (read edition32 t).forest k) ≡ b
+  found_at k known is finds = ap (λ g. is_empty (g k)) (sym caps) ∙ tested t.table k _ known is_empty is finds

@@ -13,10 +13,10 @@ ghost use Rattle.removal.specs.Marking as marking;
 ghost use Rattle.removal.specs.Removing as removing;
 
 use following::Marking;
-use model::{EMPTY, Row};
+use model::{Kind, Row};
 use single::{cut, goes_alone};
 use survivors::thin;
-use table::word;
+use table::cap_at;
 
 // The marked rows go, with all that follows; how many went.
 #[tactic(auto, using(crate::proofs::Removed::sweeps))]
@@ -36,7 +36,7 @@ pub fn delete(t: &mut [u32], control: &mut [u32; 4], row: Row) -> u32
     requires inside { row.0 * 8 + 8 ≤ length t.old }
     ensures { removing.Removes (lent t.old control.old) (lent t.new control.new) (removing.target (lent t.old control.old) row.0) result }
 {
-    if word(t, row, 0) == EMPTY {
+    if cap_at(t, row).is(Kind::Empty) {
         return 0;
     }
     if goes_alone(t, row) {

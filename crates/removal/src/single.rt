@@ -7,10 +7,10 @@ ghost use Rattle.removal.specs.Marking as marking;
 ghost use Rattle.removal.specs.Removing as removing;
 
 use crate::following::row_count;
-use model::{CNODE, NONE, Row};
+use model::{Kind, NONE, Row};
 use table::caps::same_object;
 use table::stores::{put, unlink};
-use table::{cap_at, word};
+use table::{Column, cap_at, word};
 
 // A row of the table, another than the given one, names what that one names.
 #[tactic(auto, unfolding(crate::specs::Removing::also_names))]
@@ -28,19 +28,19 @@ fn named_elsewhere(t: &[u32], row: Row) -> bool
     requires few { marking.row_count t.now ≤ most_rows }
     ensures { result ≡ removing.named_elsewhere (cap_of t.now) (marking.row_count t.now) row.0 }
 {
-    also_names(t, row, word(t, row, 6))
-        || also_names(t, row, word(t, row, 5))
+    also_names(t, row, word(t, row, Column::Last))
+        || also_names(t, row, word(t, row, Column::Next))
         || (0..row_count(t)).any(|other| also_names(t, row, other))
 }
 
 // Nothing follows a row that names no CNode, or a CNode that another row names too.
-#[tactic(auto, unfolding(crate::specs::Removing::goes_alone, model::specs::Cap::is_cnode, model::specs::Tables::cap_of))]
+#[tactic(auto, unfolding(crate::specs::Removing::goes_alone))]
 pub fn goes_alone(t: &[u32], row: Row) -> bool
     requires inside { row.0 < marking.row_count t.now }
     requires few { marking.row_count t.now ≤ most_rows }
     ensures { result ≡ removing.goes_alone (cap_of t.now) (marking.row_count t.now) row.0 }
 {
-    word(t, row, 0) != CNODE || named_elsewhere(t, row)
+    !cap_at(t, row).is(Kind::CNode) || named_elsewhere(t, row)
 }
 
 // What is below a row goes one up: the rows after it that are deeper.
@@ -50,18 +50,18 @@ fn raise_descendants(t: &mut [u32], control: &[u32; 4], row: Row)
     ensures { removing.Raises (lent t.old control.now) row.0 t.new }
 {
     let [_, _, _, count] = *control;
-    let depth = word(t, row, 7);
-    let mut next = word(t, row, 5);
+    let depth = word(t, row, Column::Depth);
+    let mut next = word(t, row, Column::Next);
     for _ in 0..count {
         if next == NONE {
             return;
         }
-        let deep = word(t, Row(next), 7);
+        let deep = word(t, Row(next), Column::Depth);
         if deep <= depth {
             return;
         }
-        let after = word(t, Row(next), 5);
-        put(t, Row(next), 7, deep - 1);
+        let after = word(t, Row(next), Column::Next);
+        put(t, Row(next), Column::Depth, deep - 1);
         next = after;
     }
 }
@@ -72,8 +72,8 @@ pub fn cut(t: &mut [u32], control: &mut [u32; 4], row: Row)
     requires occupied { removing.occupied (lent t.old control.old) row.0 ≡ true }
     ensures { lent t.new control.new ≡ removing.without_row (lent t.old control.old) row.0 }
 {
-    let last = word(t, row, 6);
-    let next = word(t, row, 5);
+    let last = word(t, row, Column::Last);
+    let next = word(t, row, Column::Next);
     let [_, _, head, count] = *control;
     raise_descendants(t, control, row);
     unlink(t, row, last, next);

@@ -2,25 +2,25 @@
 -- spread. Assumes nothing.
 use mathlib.Core.Path.{sym, ◌∙◌}
 use Rattle.removal.specs.Removing.{occupied}
-use Rattle.removal.proofs.Nodes.{nodes, empty_at, there_at}
+use Rattle.removal.proofs.Nodes.{nodes, found_at}
 use Rattle.removal.proofs.Start.{counted_start, waiting_start}
 use Rattle.removal.proofs.Removed.{removes_target}
 use Rattle.removal.proofs.Cutting.{removes_none, removes_one}
 use Rattle.removal.proofs.delete.Goals as goal
 
-pub returns-then-word-eq-EMPTY : goal.returns-then-word-eq-EMPTY
-returns-then-word-eq-EMPTY c = removes_none _ c.requires.formed _ (empty_at _ c.requires.formed _ _ c.word.ensures c.if-word-eq-EMPTY.true)
+pub returns-then-is : goal.returns-then-is
+returns-then-is c = removes_none _ c.requires.formed _ (found_at _ c.requires.formed _ c.cap_at.ensures c.is.ensures c.if-is.true)
 
 pub goes_alone-requires-clause-few : goal.goes_alone-requires-clause-few
 goes_alone-requires-clause-few c = (nodes _ c.requires.formed).few
 
 pub cut-requires-clause-occupied : goal.cut-requires-clause-occupied
 unfolding occupied
-cut-requires-clause-occupied c = rw (there_at _ c.requires.formed _ _ c.word.ensures c.if-word-eq-EMPTY.false)
+cut-requires-clause-occupied c = rw (found_at _ c.requires.formed _ c.cap_at.ensures c.is.ensures c.if-is.false)
 
 pub returns-then-goes_alone : goal.returns-then-goes_alone
 returns-then-goes_alone c =
-    let there = there_at _ c.requires.formed _ _ c.word.ensures c.if-word-eq-EMPTY.false in
+    let there = found_at _ c.requires.formed _ c.cap_at.ensures c.is.ensures c.if-is.false in
     removes_one _ c.requires.formed _ there (sym c.goes_alone.ensures ∙ c.if-goes_alone.true) _ c.cut.ensures
 
 pub count_names-requires-clause-nodes : goal.count_names-requires-clause-nodes

@@ -10,10 +10,10 @@ use Rattle.removal.proofs.Raising.{raising_as, raised_all, raising_step}
 use Rattle.removal.proofs.single.raise_descendants.Goals as goal
 
 pub word-depth-requires : goal.word-depth-requires
-word-depth-requires c = (omega arith, omega (arith, row_in _ c.requires.formed _ c.requires.occupied))
+word-depth-requires c = omega (arith, row_in _ c.requires.formed _ c.requires.occupied)
 
 pub word-next-requires : goal.word-next-requires
-word-next-requires c = (omega arith, omega (arith, row_in _ c.requires.formed _ c.requires.occupied))
+word-next-requires c = omega (arith, row_in _ c.requires.formed _ c.requires.occupied)
 
 pub loop-init : goal.loop-init
 loop-init c = λ p. raising_as refl c.word-depth.ensures c.word-next.ensures (raising_start _ c.requires.formed _ p)
@@ -24,7 +24,7 @@ returns-then-next c = record { is = λ p. let i = c.loop.invariant p in raised_a
 pub word-deep-requires : goal.word-deep-requires
 word-deep-requires c =
     let i = c.loop.invariant (stands _ c.requires.formed _ c.requires.occupied) in
-    (omega arith, omega (arith, ahead_row i.ahead c.if-next.false, i.long))
+    omega (arith, ahead_row i.ahead c.if-next.false, i.long)
 
 pub returns-then-deep-depth : goal.returns-then-deep-depth
 returns-then-deep-depth c = record { is = λ p. let i = c.loop.invariant p in raised_all i (ahead_low i.ahead (omega (arith, c.word-deep.ensures, c.if-deep-depth.true))) }

@@ -25,10 +25,10 @@ pub loop-init : goal.loop-init
 loop-init c = walk_start _ c.requires _ _ (zeros (most_rows + 1))
 
 pub word-next-requires : goal.word-next-requires
-word-next-requires c = (omega arith, in_table (goal.at.word-next-requires c).In-loop)
+word-next-requires c = in_table (goal.at.word-next-requires c).In-loop
 
 pub word-deep-requires : goal.word-deep-requires
-word-deep-requires c = (omega arith, in_table (goal.at.word-deep-requires c).In-loop)
+word-deep-requires c = in_table (goal.at.word-deep-requires c).In-loop
 
 pub bounds-low-depth : goal.bounds-low-depth
 bounds-low-depth c = omega (arith, depth_small (goal.at.bounds-low-depth c).After-word-deep)
@@ -43,7 +43,7 @@ pub bounds-low-depth-then-mark-row : goal.bounds-low-depth-then-mark-row
 bounds-low-depth-then-mark-row c = omega (arith, depth_small (goal.at.bounds-low-depth-then-mark-row c).After-word-deep)
 
 pub put-requires : goal.put-requires
-put-requires c = (omega arith, in_table (goal.at.put-requires c).In-loop)
+put-requires c = in_table (goal.at.put-requires c).In-loop
 
 pub bounds-low-depth-else-mark-row : goal.bounds-low-depth-else-mark-row
 bounds-low-depth-else-mark-row c = omega (arith, depth_small (goal.at.bounds-low-depth-else-mark-row c).After-word-deep)
