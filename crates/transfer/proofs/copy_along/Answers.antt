@@ -1,17 +1,22 @@
 -- The test of the next row is that of children; then what `copied` stores.
-use mathlib.Core.Path.{sym, ◌∙◌}
-use Rattle.transfer.proofs.Along.{has_children_lem, copy_done, typed, childless}
+use Rattle.std.proofs.Common.{rules}
+use Rattle.model.specs.Check.{refuse, ◌>>◌}
+use Rattle.model.specs.Edition.{edition32}
+use Rattle.model.proofs.Outcome.{comes_refused, comes_done}
+use Rattle.model.proofs.Transfer.Next.{children_words}
+use Rattle.model.proofs.Words.WellFormed.{roomy32}
+use Rattle.table.specs.Children.{deeper_next}
+use Rattle.transfer.specs.Ways.{copied, copy_along}
 use Rattle.transfer.proofs.copy_along.Goals as goal
-use Rattle.transfer.proofs.copy_along.Goals.{else-cap-eq-UNTYPED-via-then-cap-eq-UNTYPED+else-has_children, else-cap-eq-UNTYPED-via-else-cap-eq-UNTYPED}
 
 pub returns-then-has_children : goal.returns-then-has_children
-returns-then-has_children c = has_children_lem _ _ c.requires c.if-cap-eq-UNTYPED.true (sym c.has_children.ensures ∙ c.if-has_children.true)
+unfolding copy_along refuse deeper_next ◌>>◌
+returns-then-has_children c =
+    let children = children_words edition32 roomy32 _ c.requires.formed _ c.requires.way.held in
+    comes_refused _ _ _ _ (search rules)
 
 pub returns : goal.returns
+unfolding copy_along copied refuse deeper_next ◌>>◌
 returns c =
-    copy_done _ _ c.requires _
-    (elim c.else-cap-eq-UNTYPED.branch [
-      | else-cap-eq-UNTYPED-via-then-cap-eq-UNTYPED+else-has_children w ↦ childless c.args.w.cap _ _ w.has_children.ensures w.if-has_children.false
-      | else-cap-eq-UNTYPED-via-else-cap-eq-UNTYPED w ↦ typed _ _ w.if-cap-eq-UNTYPED.false
-    ])
-    c.copied.ensures
+    let children = children_words edition32 roomy32 _ c.requires.formed _ c.requires.way.held in
+    comes_done _ _ _ (copied edition32 c.args.w) _ (search rules) c.copied.ensures

@@ -1,12 +1,18 @@
 -- After the lookup, the test of the row that it found.
-use Rattle.transfer.proofs.Slots.{free_refused, free_taken, free_found}
+use Rattle.std.proofs.Common.{refl, rules}
+use Rattle.model.specs.Check.{refuse, ◌>>=◌, ◌>>◌}
+use Rattle.transfer.specs.Ways.{free_slot}
+use Rattle.transfer.proofs.Slots.{none_found}
 use Rattle.transfer.proofs.ways.free_slot.Goals as goal
 
-pub returns-then-c-ne-EMPTY : goal.returns-then-c-ne-EMPTY
-returns-then-c-ne-EMPTY c = free_taken _ _ _ c.in-At.ensures _ c.cap_at-c.ensures c.if-c-ne-EMPTY.true
+pub returns-in_err-row-clause-found : goal.returns-in_err-row-clause-found
+unfolding free_slot ◌>>=◌
+returns-in_err-row-clause-found c = none_found (search rules) c.from_residual.ensures.0
 
-pub returns-in-Refused : goal.returns-in-Refused
-returns-in-Refused c = free_refused _ _ _ c.in-Refused.ensures
+pub returns-then-not-is-clause-found : goal.returns-then-not-is-clause-found
+unfolding free_slot refuse ◌>>=◌ ◌>>◌
+returns-then-not-is-clause-found c = none_found (search rules) refl
 
-pub returns-else-c-ne-EMPTY : goal.returns-else-c-ne-EMPTY
-returns-else-c-ne-EMPTY c = free_found _ _ _ c.in-At.ensures _ c.cap_at-c.ensures c.if-c-ne-EMPTY.false
+pub returns-clause-found : goal.returns-clause-found
+unfolding free_slot refuse ◌>>=◌ ◌>>◌
+returns-clause-found c = record { is = search rules; inside = search rules }

@@ -1,12 +1,18 @@
 -- After the lookup, the test of the row that it found.
-use Rattle.transfer.proofs.Slots.{held_refused, held_missing, held_found}
+use Rattle.std.proofs.Common.{rules}
+use Rattle.model.specs.Check.{refuse, ◌>>=◌, ◌>>◌}
+use Rattle.transfer.specs.Ways.{held_slot, occupant}
+use Rattle.transfer.proofs.Slots.{none_found}
 use Rattle.transfer.proofs.ways.held_slot.Goals as goal
 
-pub returns-then-c-eq-EMPTY : goal.returns-then-c-eq-EMPTY
-returns-then-c-eq-EMPTY c = held_missing _ _ _ c.in-At.ensures _ c.cap_at-c.ensures c.if-c-eq-EMPTY.true
+pub returns-in_err-row-clause-found : goal.returns-in_err-row-clause-found
+unfolding held_slot ◌>>=◌
+returns-in_err-row-clause-found c = none_found (search rules) c.from_residual.ensures.0
 
-pub returns-in-Refused : goal.returns-in-Refused
-returns-in-Refused c = held_refused _ _ _ c.in-Refused.ensures
+pub returns-in_err-occupant-clause-found : goal.returns-in_err-occupant-clause-found
+unfolding held_slot occupant refuse ◌>>=◌ ◌>>◌
+returns-in_err-occupant-clause-found c = none_found (search rules) c.from_residual-in_err-occupant.ensures.0
 
-pub returns-else-c-eq-EMPTY : goal.returns-else-c-eq-EMPTY
-returns-else-c-eq-EMPTY c = held_found _ _ _ c.in-At.ensures _ c.cap_at-c.ensures c.if-c-eq-EMPTY.false
+pub returns-clause-found : goal.returns-clause-found
+unfolding held_slot occupant refuse ◌>>=◌ ◌>>◌
+returns-clause-found c = record { is = search rules; inside = search rules }

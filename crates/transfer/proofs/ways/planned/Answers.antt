@@ -1,15 +1,21 @@
--- The law of `Plans` for each way out.
-use Rattle.transfer.proofs.Plans.{no_destination, no_source, barred, planned}
+-- By what the two slots and the change come to.
+use Rattle.std.proofs.Common.{rules}
+use Rattle.model.specs.Check.{◌>>=◌}
+use Rattle.transfer.specs.Ways.{way}
 use Rattle.transfer.proofs.ways.planned.Goals as goal
 
-pub returns-in-Refused : goal.returns-in-Refused
-returns-in-Refused c = no_destination _ _ _ _ _ c.in-Refused.ensures
+pub returns-in_err-to-clause-is : goal.returns-in_err-to-clause-is
+unfolding way ◌>>=◌
+returns-in_err-to-clause-is c = search rules
 
-pub returns-in-Refused-held : goal.returns-in-Refused-held
-returns-in-Refused-held c = no_source _ _ _ _ _ c.in-At.ensures _ c.in-Refused-held.ensures
+pub returns-in_err-from-clause-is : goal.returns-in_err-from-clause-is
+unfolding way ◌>>=◌
+returns-in_err-from-clause-is c = search rules
 
-pub returns-in-Barred : goal.returns-in-Barred
-returns-in-Barred c = barred _ _ _ _ _ c.in-At.ensures _ c.in-At-held.ensures _ c.cap_at.ensures c.in-Barred.ensures
+pub returns-in_err-cap-clause-is : goal.returns-in_err-cap-clause-is
+unfolding way ◌>>=◌
+returns-in_err-cap-clause-is c = search rules
 
-pub returns-in-To : goal.returns-in-To
-returns-in-To c = planned _ _ _ _ _ c.in-At.ensures _ c.in-At-held.ensures _ c.cap_at.ensures _ c.in-To.ensures
+pub returns-clause-is : goal.returns-clause-is
+unfolding way ◌>>=◌
+returns-clause-is c = search rules
