@@ -1,5 +1,5 @@
 -- A walk along the rows below a row: what is to come of them, and what comes after them.
-use Prim.Native.Nat.{ℕ, ◌+◌, ◌≤◌, ◌<◌}
+use Prim.Native.Nat.{ℕ, ◌+◌, ◌*◌, ◌≤◌, ◌<◌}
 use mathlib.Core.Path.{◌≡◌, refl, sym, ap, ◌∙◌, subst}
 use mathlib.Core.Bool.{Bool, true, false, not, ◌||◌}
 use mathlib.Core.List.{List, [], ◌∷◌, ◌++◌, map, map-map}
@@ -195,5 +195,5 @@ module _ (t : Tables) (well : well_formed edition32 t ≡ true) (row : ℕ) (the
   unfolding occupied
   stands = place t well row (not-true _ there)
 
-  pub row_in : row < row_count t.table
-  row_in = row_below_n t well row stands
+  pub row_in : row * 8 + 8 ≤ length t.table
+  row_in = omega (arith, row_below_n t well row stands)

@@ -44,6 +44,7 @@ pub fn goes_alone(t: &[u32], row: Row) -> bool
 }
 
 // What is below a row goes one up: the rows after it that are deeper.
+#[tactic(auto, using(crate::proofs::Descent::row_in))]
 fn raise_descendants(t: &mut [u32], control: &[u32; 4], row: Row)
     requires formed { well_formed edition32 (lent t.old control.now) ≡ true }
     requires occupied { removing.occupied (lent t.old control.now) row.0 ≡ true }
@@ -67,6 +68,7 @@ fn raise_descendants(t: &mut [u32], control: &[u32; 4], row: Row)
 }
 
 // One row goes, and what was below it hangs from its nearest ancestor.
+#[tactic(auto, using(crate::proofs::Descent::row_in))]
 pub fn cut(t: &mut [u32], control: &mut [u32; 4], row: Row)
     requires formed { well_formed edition32 (lent t.old control.old) ≡ true }
     requires occupied { removing.occupied (lent t.old control.old) row.0 ≡ true }

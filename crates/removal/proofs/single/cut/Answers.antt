@@ -15,12 +15,6 @@ use Rattle.removal.proofs.Cutting.{cut_is}
 use Rattle.removal.proofs.single.cut.Goals as goal
 use Rattle.removal.proofs.single.cut.Goals.{then-last, else-last}
 
-pub word-last-requires : goal.word-last-requires
-word-last-requires c = omega (arith, row_in _ c.requires.formed _ c.requires.occupied)
-
-pub word-next-requires : goal.word-next-requires
-word-next-requires c = omega (arith, row_in _ c.requires.formed _ c.requires.occupied)
-
 pub overflow_sub-control : goal.overflow_sub-control
 overflow_sub-control c = some_row _ c.requires.formed _ (stands _ c.requires.formed _ c.requires.occupied)
 

@@ -5,15 +5,9 @@ use mathlib.Core.Path.{refl, ap, ◌∙◌}
 use native.Mathlib.Omega.{arith}
 use lib.ListN.{set}
 use Rattle.removal.proofs.Ahead.{ahead_end, ahead_low, ahead_row}
-use Rattle.removal.proofs.Descent.{raising_start, stands, row_in}
+use Rattle.removal.proofs.Descent.{raising_start, stands}
 use Rattle.removal.proofs.Raising.{raising_as, raised_all, raising_step}
 use Rattle.removal.proofs.single.raise_descendants.Goals as goal
-
-pub word-depth-requires : goal.word-depth-requires
-word-depth-requires c = omega (arith, row_in _ c.requires.formed _ c.requires.occupied)
-
-pub word-next-requires : goal.word-next-requires
-word-next-requires c = omega (arith, row_in _ c.requires.formed _ c.requires.occupied)
 
 pub loop-init : goal.loop-init
 loop-init c = λ p. raising_as refl c.word-depth.ensures c.word-next.ensures (raising_start _ c.requires.formed _ p)
