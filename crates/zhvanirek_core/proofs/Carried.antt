@@ -1,9 +1,9 @@
 -- What comes of an operation on tables that keep the rules: it goes by the state that is read from them, in which each row holds what the
 -- table's words say. So a root that the code found in the table is the one that the definition looks up.
 -- Assumes nothing.
+use Rattle.std.specs.Prelude.{◌≡◌, ℕ, true, List, get_or, Result, Ok, Err}
 use Rattle.model.specs.declared.Refusal.{Refusal}
-use Rattle.std.specs.Prelude.{Ok, Err}
-use Rattle.std.specs.Prelude.{◌≡◌, ℕ, true, List, get_or}
+use Rattle.model.specs.declared.Row.{Row}
 use mathlib.Core.Path.{sym, ap, ◌∙◌}
 use Rattle.model.specs.declared.Cap.{Cap}
 use Rattle.model.specs.Edition.{edition32}
@@ -17,7 +17,15 @@ use Rattle.model.specs.Request.{or_fault, row_named, carried_out}
 use Rattle.model.proofs.Outcome.{comes_refused, comes_same}
 use Rattle.model.proofs.Words.Caps.{caps_read}
 use Rattle.model.proofs.Words.WellFormed.{roomy32}
+use Rattle.lookup.specs.Finds.{Finds, numbered}
 use Rattle.zhvanirek_core.specs.Asking.{row_named_by}
+
+-- what the definition gives where a row is found, and where none is
+pub found_row : {t : List ℕ} {c : Check ℕ} {r : Result Row Refusal} {k : Row} → Finds t c r → r ≡ Ok k → c ≡ Ok k.0
+found_row f e = sym f.is ∙ ap numbered e
+
+pub found_none : {t : List ℕ} {c : Check ℕ} {r : Result Row Refusal} {a : Refusal} → Finds t c r → r ≡ Err a → c ≡ Err a
+found_none f e = sym f.is ∙ ap numbered e
 
 module _ (t : Tables) (formed : well_formed edition32 t ≡ true) where
   -- what the state's rows hold

@@ -1,5 +1,5 @@
 -- The promises leave one answer: two outcomes that meet one of them on the same input are equal, refusals included.
-use Rattle.model.specs.declared.Refusal.{Refusal}
+use Rattle.model.specs.Check.{Answer}
 use Rattle.std.specs.Prelude.{◌≡◌, ℕ, List}
 use mathlib.Core.Path.{sym, ◌∙◌}
 use Rattle.model.specs.Edition.{edition32}
@@ -13,5 +13,5 @@ pub request_determined : (t : Tables) (caller : ℕ) (message : List ℕ) (one o
     → one ≡ request edition32 t caller message → other ≡ request edition32 t caller message → one ≡ other
 request_determined t caller message one other p q = p ∙ sym q
 
-pub words_determined : (answer : Refusal) (one other : List ℕ) → one ≡ six_words answer → other ≡ six_words answer → one ≡ other
+pub words_determined : (answer : Answer) (one other : List ℕ) → one ≡ six_words answer → other ≡ six_words answer → one ≡ other
 words_determined answer one other p q = p ∙ sym q

@@ -1,8 +1,7 @@
-mod CommonOrder
-mod Carried
-mod Performed
-mod Gone
 mod Requested
+mod Gone
+mod Performed
+mod Carried
 mod BootRows
 mod BootAnswers
 pub mod Determined

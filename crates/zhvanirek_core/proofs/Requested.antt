@@ -43,7 +43,7 @@ asked_invokes caps caller message k e =
     e
 
 module _ (t : Tables) (caller : ℕ) (message : List ℕ) where
-  pub request_bad : well_formed edition32 t ≡ false → record { answer = BadTables; tables = t } ≡ request edition32 t caller message
+  pub request_bad : well_formed edition32 t ≡ false → record { answer = Err BadTables; tables = t } ≡ request edition32 t caller message
   unfolding request
   request_bad bad = rw bad
 

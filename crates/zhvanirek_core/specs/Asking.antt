@@ -8,6 +8,7 @@ use Rattle.model.specs.Edition.{edition32}
 use Rattle.model.specs.Cap.{is_empty}
 use Rattle.model.specs.Check.{Check, ◌>>=◌, ◌>>◌, refuse}
 use Rattle.model.specs.Lookup.{lookup}
+use Rattle.model.specs.Operations.{slot_of}
 use Rattle.model.specs.Request.{or_fault, operation_of, invokes, words_of, place}
 
 -- the row that message word `at` names, looked up from the caller's row
@@ -23,6 +24,11 @@ asked caps caller message = do
   refuse IllegalOperation (not (invokes (caps k) (operation_of (slice_index message 0))))
   refuse TruncatedMessage (nat_lt (length message) (words_of (operation_of (slice_index message 0))))
   Ok k
+
+-- the row that words 2 and 3 name, from the service's
+unfoldable pub target : (caps : ℕ → Cap) → (message : List ℕ) → (k : ℕ) → Check ℕ
+target caps message k =
+    slot_of edition32 false (lookup edition32 caps (place (caps k) message 2 false).root (place (caps k) message 2 false).index (place (caps k) message 2 false).depth)
 
 -- what a message asks of Retype, with its root in row `root`
 unfoldable pub retyping_by : (caps : ℕ → Cap) → (message : List ℕ) → (root : ℕ) → Retyping

@@ -5,7 +5,7 @@ ghost use Rattle.model.specs.Tables as tables;
 ghost use Rattle.model.proofs.Words.Rows.{row_at};
 ghost use Rattle.zhvanirek_core.specs.Booting.{Range, boot_table};
 
-use model::{CNODE, NONE, UNTYPED};
+use model::{Kind, NONE};
 
 // The eight words of row k.
 fn boot_row(m: u32, r: u32, k: u32) -> [u32; 8]
@@ -14,7 +14,7 @@ fn boot_row(m: u32, r: u32, k: u32) -> [u32; 8]
     ensures { result ≡ row_at (boot_table m r) k }
 {
     if k == 0 {
-        return [CNODE, 0, r, 0, 32 - r, 1, NONE, 0];
+        return [Kind::CNode as u32, 0, r, 0, 32 - r, 1, NONE, 0];
     }
     let last = m - r - 4;
     if last < k {
@@ -22,7 +22,7 @@ fn boot_row(m: u32, r: u32, k: u32) -> [u32; 8]
     }
     let size = r + 3 + k;
     let next = if k == last { NONE } else { k + 1 };
-    [UNTYPED, 1 << size, size, 0, 0, next, k - 1, 0]
+    [Kind::Untyped as u32, 1 << size, size, 0, 0, next, k - 1, 0]
 }
 
 // Word j of the table.
@@ -43,9 +43,7 @@ pub fn fill(table: &mut [u32], m: u32, r: u32)
     requires fits { length table.old ≡ 8 * tables.rows edition32 m }
     ensures { table.new ≡ boot_table m r }
 {
-    let mut j = 0;
-    while j < table.len() {
+    for j in 0..table.len() {
         table[j] = boot_word(m, r, j);
-        j += 1;
     }
 }

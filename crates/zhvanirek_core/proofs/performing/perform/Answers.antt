@@ -1,38 +1,52 @@
 -- Each operation by its number.
-use Rattle.std.specs.Prelude.{◌≡◌, true}
-use mathlib.Core.Path.{◌∙◌, subst}
-use Rattle.model.specs.declared.Operation.{Operation}
-use Rattle.model.specs.Tables.{cap_of}
-use Rattle.model.specs.Request.{invokes}
-use Rattle.zhvanirek_core.proofs.Performed.{asks_for, copy_chosen, mint_chosen, move_chosen, mutate_chosen, delete_chosen, revoke_chosen, same_chosen, unknown_chosen}
+use Rattle.std.specs.Prelude.{◌≡◌, Err}
+use Rattle.std.proofs.Common.{rules}
+use mathlib.Core.Path.{refl, sym, ap, ap₂, ◌∙◌}
+use Rattle.model.specs.declared.Change.TheVariants.{Masked, Minted, Mutated}
+use Rattle.model.specs.declared.Operation.TheVariants.{Copy, Mint, Move, Mutate, Delete, Revoke}
+use Rattle.lookup.proofs.WellFormed.{ready}
+use Rattle.zhvanirek_core.proofs.Carried.{found_row, found_none}
+use Rattle.zhvanirek_core.proofs.Gone.{delete_refused, delete_found, revoke_refused, revoke_found}
+use Rattle.zhvanirek_core.proofs.Performed.{transfer_chosen, same_chosen}
 use Rattle.zhvanirek_core.proofs.performing.perform.Goals as goal
 
-pub retyping-requires-clause-untyped : goal.retyping-requires-clause-untyped
-retyping-requires-clause-untyped c = subst (λ (o : Operation). invokes (cap_of c.args.table.now c.args.service.0) o ≡ true) (asks_for c.args.message.now _ _ c.word_at.ensures c.in-Retype.ensures) c.requires.invokes
+pub target-requires-clause-ready : goal.target-requires-clause-ready
+target-requires-clause-ready c = ready _ c.requires.served.formed
+
+pub target-requires-in-Revoke-clause-ready : goal.target-requires-in-Revoke-clause-ready
+target-requires-in-Revoke-clause-ready c = ready _ c.requires.served.formed
 
 pub returns-in-Copy : goal.returns-in-Copy
-returns-in-Copy c = c.copying.ensures ∙ copy_chosen _ _ _ _ _ (asks_for c.args.message.now _ _ c.word_at.ensures c.in-Copy.ensures) c.word_at-rights.ensures
+returns-in-Copy c = c.transferring.ensures ∙ transfer_chosen _ _ _ _ Copy _ (sym c.in-Copy.ensures) (ap Masked c.word-rights.ensures)
 
 pub returns-in-Mint : goal.returns-in-Mint
-returns-in-Mint c = c.copying-in-Mint.ensures ∙ mint_chosen _ _ _ _ _ _ (asks_for c.args.message.now _ _ c.word_at.ensures c.in-Mint.ensures) c.word_at-rights-in-Mint.ensures c.word_at-datum.ensures
+returns-in-Mint c =
+    c.transferring-in-Mint.ensures ∙ transfer_chosen _ _ _ _ Mint _ (sym c.in-Mint.ensures) (ap₂ Minted c.word-rights-in-Mint.ensures c.word-datum.ensures)
 
 pub returns-in-Move : goal.returns-in-Move
-returns-in-Move c = c.moving.ensures ∙ move_chosen _ _ _ _ (asks_for c.args.message.now _ _ c.word_at.ensures c.in-Move.ensures)
+returns-in-Move c = c.transferring-in-Move.ensures ∙ transfer_chosen _ _ _ _ Move _ (sym c.in-Move.ensures) refl
 
 pub returns-in-Mutate : goal.returns-in-Mutate
-returns-in-Mutate c = c.moving-in-Mutate.ensures ∙ mutate_chosen _ _ _ _ _ (asks_for c.args.message.now _ _ c.word_at.ensures c.in-Mutate.ensures) c.word_at-datum-in-Mutate.ensures
+returns-in-Mutate c = c.transferring-in-Mutate.ensures ∙ transfer_chosen _ _ _ _ Mutate _ (sym c.in-Mutate.ensures) (ap Mutated c.word-datum-in-Mutate.ensures)
 
-pub returns-in-Delete : goal.returns-in-Delete
-returns-in-Delete c = c.deleting.ensures ∙ delete_chosen _ _ _ _ (asks_for c.args.message.now _ _ c.word_at.ensures c.in-Delete.ensures)
+pub returns-in_err-row-in-Delete : goal.returns-in_err-row-in-Delete
+returns-in_err-row-in-Delete c =
+    let told : c.from_residual.result ≡ Err c.in_err-row-in-Delete.field-0.0 = search rules in
+    rw told
+    (delete_refused _ c.requires.served.formed _ _ _ _ (found_none c.target.ensures c.in_err-row-in-Delete.was) ∙ same_chosen _ _ _ _ Delete (sym c.in-Delete.ensures))
 
-pub returns-in-Revoke : goal.returns-in-Revoke
-returns-in-Revoke c = c.revoking.ensures ∙ revoke_chosen _ _ _ _ (asks_for c.args.message.now _ _ c.word_at.ensures c.in-Revoke.ensures)
+pub returns-in_ok-row-in-Delete : goal.returns-in_ok-row-in-Delete
+returns-in_ok-row-in-Delete c =
+    delete_found _ c.requires.served.formed _ _ _ _ _ _ (found_row c.target.ensures c.in_ok-row-in-Delete.was) c.delete.ensures
+    ∙ same_chosen _ _ _ _ Delete (sym c.in-Delete.ensures)
 
-pub returns-in-Rotate : goal.returns-in-Rotate
-returns-in-Rotate c = c.rotating.ensures ∙ same_chosen _ _ _ _ _ (asks_for c.args.message.now _ _ c.word_at.ensures c.in-Rotate.ensures)
+pub returns-in_err-row-in-Revoke : goal.returns-in_err-row-in-Revoke
+returns-in_err-row-in-Revoke c =
+    let told : c.from_residual-in_err-row-in-Revoke.result ≡ Err c.in_err-row-in-Revoke.field-0.0 = search rules in
+    rw told
+    (revoke_refused _ c.requires.served.formed _ _ _ _ (found_none c.target-in-Revoke.ensures c.in_err-row-in-Revoke.was) ∙ same_chosen _ _ _ _ Revoke (sym c.in-Revoke.ensures))
 
-pub returns-in-Retype : goal.returns-in-Retype
-returns-in-Retype c = c.retyping.ensures ∙ same_chosen _ _ _ _ _ (asks_for c.args.message.now _ _ c.word_at.ensures c.in-Retype.ensures)
-
-pub returns-in-Unknown : goal.returns-in-Unknown
-returns-in-Unknown c = unknown_chosen _ _ _ _ (asks_for c.args.message.now _ _ c.word_at.ensures c.in-Unknown.ensures)
+pub returns-in_ok-row-in-Revoke : goal.returns-in_ok-row-in-Revoke
+returns-in_ok-row-in-Revoke c =
+    revoke_found _ c.requires.served.formed _ _ _ _ _ _ (found_row c.target-in-Revoke.ensures c.in_ok-row-in-Revoke.was) c.revoke.ensures
+    ∙ same_chosen _ _ _ _ Revoke (sym c.in-Revoke.ensures)
