@@ -15,12 +15,10 @@ use Rattle.model.specs.Cap.{is_cnode}
 use Rattle.model.specs.Check.{Check, Looked}
 use Rattle.model.specs.Tables.{cap_of}
 use Rattle.model.specs.Lookup.{lookup}
+use Rattle.model.proofs.Steps.{never}
 use Rattle.lookup.specs.Finds.{Finds}
 use Rattle.lookup.specs.Ready.{Ready, Usable}
 use Rattle.lookup.proofs.InTable.{found_in_table}
-
-never : (r : Refusal) (k : Row) → ◌≡◌ {A = Result Row Refusal} (Err r) (Ok k) → ⊥
-never r k e = cc
 
 -- `told` is what the definition makes of a lookup, and `Tells` what the code makes of a miss
 module _ (t : List ℕ) (root : Cap) (address depth : ℕ) (ready : Ready t) (usable : is_cnode root ≡ true → Usable t root) (told : Looked → Check ℕ)

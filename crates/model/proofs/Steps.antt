@@ -1,4 +1,4 @@
--- A check that goes on and one that stops, as rewrites: with these and its definition named at a function, each way out of it is found.
+-- A check that goes on and one that stops. As rewrites: with `steps` and its definition named at a function, each way out of it is found.
 use Rattle.std.specs.Prelude.{Ok, Err}
 use mathlib.Core.Path.{◌≡◌, refl}
 use mathlib.Core.Bool.{Bool, true, false}
@@ -31,3 +31,24 @@ unfolding refuse
 pass r b h = rw h
 
 pub ruleset steps = (bind_ok, bind_err, then_ok, then_err, stop, pass, tests)
+
+-- ---- what is known where a check went through
+
+pub never : {A : Type 0} (r : Refusal) (x : A) → ◌≡◌ {A = Check A} (Err r) (Ok x) → ⊥
+never r x e = cc
+
+-- a test that passed, and what came after it
+pub through : {A : Type 0} (r : Refusal) (b : Bool) (rest : Check A) (x : A) → (refuse r b >> rest) ≡ Ok x → (b ≡ false) × (rest ≡ Ok x)
+unfolding refuse ◌>>◌
+through r true rest x e = absurd (never r x e)
+through r false rest x e = (refl, e)
+
+pub bound : {A B : Type 0} (c : Check A) (f : A → Check B) (x : B) → (c >>= f) ≡ Ok x → (a : A) × (c ≡ Ok a) × (f a ≡ Ok x)
+unfolding ◌>>=◌
+bound (Ok a) f x e = (a, refl, e)
+bound (Err r) f x e = absurd (never r x e)
+
+pub then_passed : {A B : Type 0} (c : Check A) (d : Check B) (x : B) → (c >> d) ≡ Ok x → (a : A) × (c ≡ Ok a) × (d ≡ Ok x)
+unfolding ◌>>◌
+then_passed (Ok a) d x e = (a, refl, e)
+then_passed (Err r) d x e = absurd (never r x e)

@@ -29,7 +29,7 @@ use Rattle.retype.specs.Allotting.{memory_for, Bounded, Vacant, allotting}
 use Rattle.retype.specs.Laid.{unit, laid_out, Layable}
 use Rattle.retype.specs.Window.{taken_by}
 use Rattle.retype.proofs.Bytes.{bytes_small, at_small, objects_most}
-use Rattle.retype.proofs.Passed.{through}
+use Rattle.model.proofs.Steps.{through}
 use Rattle.retype.proofs.Whole.{taken_by_lem}
 use Rattle.retype.proofs.Untyped.{Small, small}
 

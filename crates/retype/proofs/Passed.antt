@@ -1,8 +1,7 @@
 -- What is known where Retype's tests have passed.
-use Rattle.model.specs.declared.Refusal.{Refusal}
 use Rattle.std.specs.Prelude.{Ok, Err}
 use Prim.Native.Nat.{ℕ, ◌+◌, ◌-◌, ◌*◌, ◌≤◌}
-use mathlib.Core.Path.{◌≡◌, refl, sym}
+use mathlib.Core.Path.{◌≡◌, sym}
 use mathlib.Core.Bool.{Bool, true, false}
 use mathlib.Core.List.{List}
 use native.Mathlib.Omega.{arith}
@@ -14,32 +13,14 @@ use Rattle.model.specs.declared.Cap.{Cap}
 use Rattle.model.specs.declared.Retyping.{Retyping}
 use Rattle.model.specs.declared.Place.{Place}
 use Rattle.model.specs.Cap.{is_cnode, first_row, slots}
-use Rattle.model.specs.Check.{Check, refuse, ◌>>=◌, ◌>>◌}
+use Rattle.model.specs.Check.{Check, ◌>>=◌}
 use Rattle.model.specs.Operations.{slot_of}
 use Rattle.model.specs.Lookup.{lookup}
 use Rattle.model.specs.Tables.{cap_of}
 use Rattle.model.proofs.Booleans.{or_none}
+use Rattle.model.proofs.Steps.{never, through}
 use Rattle.lookup.specs.Ready.{Ready, Usable}
 use Rattle.retype.specs.Window.{node_by, window_in}
-
-never : {A : Type 0} (a : Refusal) (x : A) → ◌≡◌ {A = Check A} (Err a) (Ok x) → ⊥
-never a x e = cc
-
--- a test that passed, and what came after it
-pub through : {A : Type 0} (a : Refusal) (b : Bool) (rest : Check A) (x : A) → (refuse a b >> rest) ≡ Ok x → (b ≡ false) × (rest ≡ Ok x)
-unfolding refuse ◌>>◌
-through a true rest x e = absurd (never a x e)
-through a false rest x e = (refl, e)
-
-pub bound : {A B : Type 0} (c : Check A) (f : A → Check B) (x : B) → (c >>= f) ≡ Ok x → (a : A) × (c ≡ Ok a) × (f a ≡ Ok x)
-unfolding ◌>>=◌
-bound (Ok a) f x e = (a, refl, e)
-bound (Err r) f x e = absurd (never r x e)
-
-pub then_passed : {A B : Type 0} (c : Check A) (d : Check B) (x : B) → (c >> d) ≡ Ok x → (a : A) × (c ≡ Ok a) × (d ≡ Ok x)
-unfolding ◌>>◌
-then_passed (Ok a) d x e = (a, refl, e)
-then_passed (Err r) d x e = absurd (never r x e)
 
 -- the window lies in the slots of the node n, from row k on
 pub record Placed (n : Cap) (q : Retyping) (k : ℕ) : Type 0 where

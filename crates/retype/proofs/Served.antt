@@ -21,7 +21,8 @@ use Rattle.lookup.specs.Ready.{Ready, Usable}
 use Rattle.lookup.proofs.WellFormed.{ready}
 use Rattle.retype.specs.Allotting.{Retypable, Vacant, allotting}
 use Rattle.retype.specs.Window.{Known, sized, window_in, taken_by, vacant_in, first_slot}
-use Rattle.retype.proofs.Passed.{through, bound, then_passed, window_placed, window_inside, node_usable}
+use Rattle.model.proofs.Steps.{through, bound, then_passed}
+use Rattle.retype.proofs.Passed.{window_placed, window_inside, node_usable}
 use Rattle.retype.proofs.Whole.{retype_by}
 
 sized_known : (object size : ℕ) → sized edition32 object size ≡ Ok tt → Known object size

@@ -1,7 +1,7 @@
 -- Freed memory is used again: after a request that revoked an Untyped that is still there, a request to retype all of it answers 0 1. Its
 -- tests pass one by one, and the model's law on the state does the rest.
 -- Assumes nothing.
-use Rattle.std.specs.Prelude.{Ok, Err}
+use Rattle.std.specs.Prelude.{Ok}
 use Prim.Native.Nat.{ℕ, ◌+◌, ◌<◌, ◌≤◌}
 use mathlib.Core.Path.{ap, ap₂, subst, sym, ◌∙◌, ◌≡◌}
 use mathlib.Core.Bool.{false, not, true}

@@ -1,12 +1,10 @@
 -- A Revoke that succeeds removes what the definition removes, so none of its target's descendants is left.
 -- Assumes nothing.
-use Rattle.model.specs.declared.Refusal.{Refusal}
-use Rattle.std.specs.Prelude.{Ok, Err}
+use Rattle.std.specs.Prelude.{Ok}
 use Prim.Native.Nat.{ℕ}
 use mathlib.Core.Path.{ap, refl, subst, sym, ◌∙◌, ◌≡◌}
 use mathlib.Core.Bool.{Bool, false, not, true, true≢false}
 use mathlib.Core.List.{List}
-use native.Mathlib.Omega.{arith}
 use lib.Dec.{ltb}
 use lib.ListN.{get_or, length}
 use borrow.Author.Tests.{not-true}
@@ -34,28 +32,9 @@ use Rattle.model.proofs.Kept.Removal.{removed_start}
 use Rattle.model.proofs.Kept.Rules.{entry_at, removed_sound}
 use Rattle.model.proofs.Words.Caps.{caps_read}
 use Rattle.model.proofs.Words.WellFormed.{Roomy, good_read, roomy32}
+use Rattle.model.proofs.Steps.{never, bound}
 use Rattle.tenants.specs.Memory.{RevokeClears, Revokes, target_of}
 use Rattle.tenants.proofs.Carried.{answer_is, answered, read_after}
-
--- ---- checks that pass
-
-refused_passed : {A : Type 0} (a : Refusal) (x : A) → Err a ≡ Ok x → ⊥
-refused_passed a x e = let z : ◌≡◌ {A = ℕ} 0 1 = cc in omega arith
-
-bound : {A B : Type 0} (c : Check A) (f : A → Check B) (x : B) → (c >>= f) ≡ Ok x → (a : A) × (c ≡ Ok a) × (f a ≡ Ok x)
-unfolding ◌>>=◌
-bound (Ok a) f x e = (a, refl, e)
-bound (Err r) f x e = absurd (refused_passed r x e)
-
--- no refusal of the common order is a success
-truncated : (n : ℕ) → TruncatedMessage ≡ Ok n → ⊥
-truncated n e = let z : ◌≡◌ {A = ℕ} 0 1 = cc in omega arith
-
-invalid : (n : ℕ) → InvalidCapability ≡ Ok n → ⊥
-invalid n e = let z : ◌≡◌ {A = ℕ} 0 1 = cc in omega arith
-
-illegal : (n : ℕ) → IllegalOperation ≡ Ok n → ⊥
-illegal n e = let z : ◌≡◌ {A = ℕ} 0 1 = cc in omega arith
 
 -- ---- a Revoke that succeeds
 
@@ -68,10 +47,10 @@ module _ (E : Edition) (t : Tables) (wf : well_formed E t ≡ true) where
       → answered E t wf (refuse TruncatedMessage short >> (refuse InvalidCapability empty >> (refuse IllegalOperation other >> (refuse TruncatedMessage brief >> rest)))) ≡ Ok n
       → (refuse TruncatedMessage short >> (refuse InvalidCapability empty >> (refuse IllegalOperation other >> (refuse TruncatedMessage brief >> rest)))) ≡ rest
   unfolding refuse ◌>>◌ concluded ◌>>=◌
-  tests_pass n true empty other brief rest h = absurd (truncated n h)
-  tests_pass n false true other brief rest h = absurd (invalid n h)
-  tests_pass n false false true brief rest h = absurd (illegal n h)
-  tests_pass n false false false true rest h = absurd (truncated n h)
+  tests_pass n true empty other brief rest h = absurd (never _ n h)
+  tests_pass n false true other brief rest h = absurd (never _ n h)
+  tests_pass n false false true brief rest h = absurd (never _ n h)
+  tests_pass n false false false true rest h = absurd (never _ n h)
   tests_pass n false false false false rest h = refl
 
   module _ (caller : ℕ) (message : List ℕ) (k : ℕ) (r : Revokes E t caller message k) where

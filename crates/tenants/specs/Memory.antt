@@ -1,5 +1,5 @@
 -- What holds of memory throughout a run of requests, said of the table's words.
-use Rattle.std.specs.Prelude.{Ok, Err}
+use Rattle.std.specs.Prelude.{Ok}
 use Rattle.std.specs.Prelude.{ℕ, ◌+◌, ◌<◌, ◌≤◌, ◌≡◌, Bool, false, not, true, ◌&&◌, List, get_or, length}
 use Rattle.model.specs.declared.Cap.{Cap}
 use Rattle.model.specs.Lists.{member}

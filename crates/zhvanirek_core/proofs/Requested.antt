@@ -14,21 +14,18 @@ use Rattle.model.specs.Tables.{Tables, cap_of, read}
 use Rattle.model.specs.Rules.{well_formed}
 use Rattle.model.specs.Request.{operation_of, invokes, row_named, perform, served, carried_out, request}
 use Rattle.model.proofs.Outcome.{comes_refused, comes_same, bind_bind, then_bind}
+use Rattle.model.proofs.Steps.{bind_ok}
 use Rattle.model.proofs.Kept.Checks.{passes_at, twin_bind, twin_known, twin_pass, twin_refuse, twin_seq}
 use Rattle.zhvanirek_core.specs.Asking.{row_named_by, asked}
 use Rattle.zhvanirek_core.proofs.Carried.{caps_are}
 
 -- ---- what is checked first, and the rest
 
-pass_bind : {A B : Type 0} (a : A) (f : A → Check B) → (Ok a >>= f) ≡ f a
-unfolding ◌>>=◌
-pass_bind a f = refl
-
 -- a request up to its operation, and then the operation
 served_is : (f : Forest) (caller : ℕ) (message : List ℕ)
     → served edition32 f caller message ≡ (asked (cap_at f) caller message >>= λ k. perform edition32 f caller message k (operation_of (get_or message 0 0)))
 unfolding served asked row_named row_named_by
-served_is f caller message = sym (simp (then_bind, bind_bind, pass_bind))
+served_is f caller message = sym (simp (then_bind, bind_bind, bind_ok))
 
 -- a service that was found is of the operation's kind
 pub asked_invokes : (caps : ℕ → Cap) (caller : ℕ) (message : List ℕ) (k : ℕ) → asked caps caller message ≡ Ok k → invokes (caps k) (operation_of (get_or message 0 0)) ≡ true
