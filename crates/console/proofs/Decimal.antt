@@ -1,6 +1,6 @@
--- Reading a number byte by byte gives the number that the digits stand for, and no number where a byte is no digit or a word does not hold
+-- Option ℕ a number byte by byte gives the number that the digits stand for, and no number where a byte is no digit or a word does not hold
 -- it: a number only grows by further digits. And a number that is printed in decimal is read back.
-use Rattle.std.specs.Prelude.{◌≡◌, ℕ, zero, suc, ◌+◌, ◌/◌, ◌%◌, ◌<◌, ◌≤◌, Bool, true, false, cond, ◌&&◌, ltb, leb, List, [], ◌∷◌, ◌++◌}
+use Rattle.std.specs.Prelude.{◌≡◌, ℕ, zero, suc, ◌+◌, ◌/◌, ◌%◌, ◌<◌, ◌≤◌, Bool, true, false, cond, ◌&&◌, ltb, leb, List, [], ◌∷◌, ◌++◌, None, Some}
 use mathlib.Core.Path.{refl, ◌∙◌}
 use native.Mathlib.Omega.{arith}
 use native.Mathlib.Nat.{mod-lt, div-add-mod'}
@@ -9,14 +9,13 @@ use Rattle.model.proofs.Booleans.{and_left, and_right, and_intro}
 use Rattle.io.specs.Digits.{hex_digit_ascii}
 use Rattle.console.specs.Decimal.{is_digit, more, with_byte, value_from}
 use Rattle.console.specs.Writing.{decimal, decimal_within}
-use Rattle.console.specs.declared.line.Reading.{Reading}
-use Rattle.console.specs.declared.line.Reading.TheVariants.{Number, NoNumber}
+use Rattle.std.specs.declared.option.Option.{Option}
 
 -- the bytes read one after the other, after what was read before
-abbrev pub read_from : Reading → List ℕ → Reading
+abbrev pub read_from : Option ℕ → List ℕ → Option ℕ
 read_from r [] = r
-read_from (Number n) (b ∷ bs) = read_from (with_byte n b) bs
-read_from NoNumber (b ∷ bs) = NoNumber
+read_from (Some n) (b ∷ bs) = read_from (with_byte n b) bs
+read_from None (b ∷ bs) = None
 
 -- every byte is a digit
 abbrev pub all_digits : List ℕ → Bool
@@ -31,7 +30,7 @@ grows n (b ∷ bs) =
     omega arith
 
 -- from no number nothing is read
-none_stays : (bs : List ℕ) → read_from NoNumber bs ≡ NoNumber
+none_stays : (bs : List ℕ) → read_from None bs ≡ None
 none_stays [] = refl
 none_stays (b ∷ bs) = refl
 
@@ -42,7 +41,7 @@ and_false false = refl
 
 -- what is read after a number that a word holds
 abbrev Read : ℕ → List ℕ → Type 0
-Read n bs = read_from (Number n) bs ≡ cond (all_digits bs && ltb (value_from n bs) 4294967296) (Number (value_from n bs)) NoNumber
+Read n bs = read_from (Some n) bs ≡ cond (all_digits bs && ltb (value_from n bs) 4294967296) (Some (value_from n bs)) None
 
 pub reads : (n : ℕ) (bs : List ℕ) → n < 4294967296 → Read n bs
 unfolding with_byte
@@ -93,6 +92,6 @@ printed_value (suc most) n h = go (ltb n 10) refl (printed_value most (n / 10))
         rw p (value_end 0 (decimal_within most (n / 10)) (48 + n % 10) ∙ rw whole (omega (arith, div-add-mod' n 10)))
 
 -- a number that is printed is read back
-pub read_back : (n : ℕ) → n < 4294967296 → read_from (Number 0) (decimal n) ≡ Number n
+pub read_back : (n : ℕ) → n < 4294967296 → read_from (Some 0) (decimal n) ≡ Some n
 unfolding decimal
 read_back n w = reads 0 (decimal_within n n) (omega arith) ∙ rw (printed_digits n n (omega arith), printed_value n n (omega arith), lt-ltb n 4294967296 w)

@@ -1,31 +1,12 @@
 -- The lines of the drawn tree, put together from what is written piece by piece.
-use Rattle.std.specs.Prelude.{◌≡◌, ℕ, zero, suc, ◌+◌, ◌-◌, ◌*◌, ◌^◌, ◌<◌, ◌≤◌, List, [], ◌++◌, length}
-use mathlib.Core.Path.{sym, ◌∙◌}
-use mathlib.Core.List.{append_assoc, append-nil}
+use Rattle.std.specs.Prelude.{◌≡◌, ℕ, suc, ◌+◌, ◌-◌, ◌*◌, ◌^◌, ◌<◌, ◌≤◌, List, [], ◌++◌, length}
+use mathlib.Core.List.{append_assoc}
 use native.Mathlib.Omega.{arith}
-use native.Mathlib.Nat.{sub_self}
-use native.Mathlib.Numerals.{unary_clauses}
 use borrow.Author.Tests.{le-leb, lt-leb, lt-ltb, le-ltb}
 use Rattle.model.specs.Tables.{word, cap_of}
 use Rattle.model.specs.declared.Cap.{Cap}
 use Rattle.console.specs.Writing.{ascii, decimal}
 use Rattle.console.specs.Drawn.{next_row, indent, named, bytes_text, cap_text, drawn_row, drawn_rows}
-
--- one depth more
-pub deeper : (depth left : ℕ) → 0 < left → left ≤ depth → indent (depth - left) ++ ascii "  " ≡ indent (depth - (left - 1))
-deeper depth left h g =
-    let more : depth - (left - 1) ≡ suc (depth - left) = omega arith in
-    rw more
-
--- none yet
-pub none_yet : (depth : ℕ) → [] ≡ indent (depth - depth)
-none_yet depth = rw (sub_self depth)
-
--- none is left
-pub deep : (depth left : ℕ) → left ≤ 0 → indent (depth - left) ≡ indent depth
-deep depth left h =
-    let all : depth - left ≡ depth = omega arith in
-    rw all
 
 -- the bytes of an Untyped
 pub bytes_told : (size n : ℕ) → n ≡ 2 ^ size → size < 64 → ascii " bytes " ++ decimal n ≡ bytes_text size
@@ -51,12 +32,8 @@ module _ (t : List ℕ) (k : ℕ) where
   unfolding drawn_row
   row_outside h = rw (lt-leb _ _ h)
 
--- one row more of the list
-pub next_drawn : (t : List ℕ) (whole before : List ℕ) (left k n : ℕ) → n ≡ next_row t k → 0 < left → before ++ drawn_rows t left k ≡ whole → before ++ drawn_row t k ++ drawn_rows t (left - 1) n ≡ whole
-next_drawn t whole before zero k n e h p = absurd (omega arith)
-next_drawn t whole before (suc left) k n e h p = simp unary_clauses (rw (e, append_assoc) p)
-
--- the last row is drawn
-pub all_drawn : (t : List ℕ) (whole before : List ℕ) (left k : ℕ) → left ≤ 0 → before ++ drawn_rows t left k ≡ whole → before ≡ whole
-all_drawn t whole before zero k h p = sym (append-nil before) ∙ p
-all_drawn t whole before (suc left) k h p = absurd (omega arith)
+-- one row more of the list, of which i are drawn
+pub next_drawn : (t whole before : List ℕ) (count i k n : ℕ) → n ≡ next_row t k → i < count → before ++ drawn_rows t (count - i) k ≡ whole → (before ++ drawn_row t k) ++ drawn_rows t (count - (i + 1)) n ≡ whole
+next_drawn t whole before count i k n e h p =
+    let one : count - i ≡ suc (count - (i + 1)) = omega arith in
+    rw (e, append_assoc) (rw one at p)

@@ -1,10 +1,10 @@
 -- The lines of an answer, of a row and of the tables, put together from what is written piece by piece.
-use Rattle.std.specs.Prelude.{◌≡◌, ℕ, ◌+◌, ◌-◌, ◌*◌, ◌/◌, ◌<◌, ◌≤◌, true, false, ◌&&◌, eqb, List, [], ◌∷◌, ◌++◌, length, get_or, take, drop}
-use mathlib.Core.Path.{sym, ap, ◌∙◌}
+use Rattle.std.specs.Prelude.{◌≡◌, ◌≢◌, ℕ, zero, suc, ◌+◌, ◌-◌, ◌*◌, ◌/◌, ◌<◌, Bool, true, false, ◌&&◌, eqb, MatchBool, List, [], ◌∷◌, ◌++◌, length, get_or, take, drop}
+use Rattle.std.specs.List.{AllWithin, HoldsAt}
+use mathlib.Core.Path.{refl, sym, ap, ◌∙◌}
 use native.Mathlib.Omega.{arith}
 use native.Mathlib.Numerals.{add-one}
-use lib.ListN.{drop_of_length-le}
-use lib.Seq.{take_all, drop-cons}
+use lib.Seq.{take_all}
 use borrow.Author.Tests.{eq-eqb, ne_eqb}
 use Rattle.console.specs.Writing.{ascii, decimal, spaced}
 use Rattle.console.specs.Show.{answer_text, row_words, all_zero, row_text, rows_text, show_text}
@@ -17,20 +17,23 @@ answer_line (w ∷ ws) h = rw (take_all 5 ws (omega arith))
 
 -- ---- a row
 
-zero_step : (ws : List ℕ) (i : ℕ) → i < length ws → all_zero (drop i ws) ≡ eqb (get_or ws i 0) 0 && all_zero (drop (i + 1) ws)
-zero_step ws i h = rw (add-one, drop-cons ws i 0)
+each_zero : (ws : List ℕ) → ((k d : ℕ) → k < length ws → get_or ws k d ≡ 0) → true ≡ all_zero ws
+each_zero [] h = refl
+each_zero (w ∷ ws) h = rw (eq-eqb w 0 (h 0 0 (omega arith))) (each_zero ws (λ k d l. h (suc k) d (omega arith)))
 
--- a word that is 0 is passed over
-pub zero_passed : (ws : List ℕ) (i : ℕ) → i < length ws → all_zero ws ≡ all_zero (drop i ws) → get_or ws i 0 ≡ 0 → all_zero ws ≡ all_zero (drop (i + 1) ws)
-zero_passed ws i h p z = p ∙ zero_step ws i h ∙ rw (eq-eqb _ _ z)
+some_other : (ws : List ℕ) (k : ℕ) → k < length ws → (get_or ws k 0 ≡ 0 → ⊥) → false ≡ all_zero ws
+some_other [] k l n = absurd (omega arith)
+some_other (w ∷ ws) zero l n = rw (ne_eqb w 0 n)
+some_other (w ∷ ws) (suc k) l n = rw (sym (some_other ws k (omega arith) n)) (and_none (eqb w 0))
+  where
+    and_none : (b : Bool) → false ≡ b && false
+    and_none true = refl
+    and_none false = refl
 
--- a word that is not decides
-pub zero_refuted : (ws : List ℕ) (i : ℕ) → i < length ws → all_zero ws ≡ all_zero (drop i ws) → (get_or ws i 0 ≡ 0 → ⊥) → false ≡ all_zero ws
-zero_refuted ws i h p z = sym (p ∙ zero_step ws i h ∙ rw (ne_eqb _ _ z))
-
--- no word is left
-pub zero_proved : (ws : List ℕ) (i : ℕ) → length ws ≤ i → all_zero ws ≡ all_zero (drop i ws) → true ≡ all_zero ws
-zero_proved ws i h p = sym (p ∙ ap all_zero (drop_of_length-le ws h))
+-- a test that says of each word that it is 0, or of one that it is not
+pub zeros_tested : (ws : List ℕ) (r : Bool) → MatchBool r (AllWithin (λ (w : ℕ). w ≡ 0) ws 0 (length ws)) ((k : ℕ) × (k < length ws) × HoldsAt (λ (w : ℕ). w ≢ 0) ws k) → r ≡ all_zero ws
+zeros_tested ws true each = each_zero ws (λ k d l. each k d (omega arith) l)
+zeros_tested ws false (k, l, other) = some_other ws k l (other 0)
 
 -- from the row's first word to its last
 abbrev part : List ℕ → ℕ → List ℕ

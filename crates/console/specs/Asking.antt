@@ -1,8 +1,11 @@
 -- What a whole line asks for, by the key of its first word and the count of its numbers.
-use Rattle.std.specs.Prelude.{ℕ, ◌+◌, ◌*◌, Bool, cond, List, [], ◌∷◌, ◌==◌, nat_le}
+use Rattle.std.specs.Prelude.{ℕ, ◌+◌, ◌*◌, Bool, cond, List, [], ◌∷◌, None, Some, Ok, Err, ◌==◌, nat_le}
 use Prim.Native.String.{String}
+use Rattle.std.specs.declared.option.Option.{Option}
+use Rattle.std.specs.declared.result.Result.{Result}
+use Rattle.console.specs.declared.asking.BadLine.{BadLine}
 use Rattle.console.specs.declared.asking.Command.{Command}
-use Rattle.console.specs.declared.asking.Command.TheVariants.{Nothing, Boot, Size, Control, Row, Ask, Show, Tree, Estate, Bad}
+use Rattle.console.specs.declared.asking.Command.TheVariants.{Boot, Size, Control, Row, Ask, Show, Tree, Estate}
 use Rattle.console.specs.declared.line.Line.{Line}
 use Rattle.console.specs.Bytes.{says_nothing}
 use Rattle.console.specs.Writing.{ascii}
@@ -17,10 +20,10 @@ abbrev pub key : String → ℕ
 key word = key_after 1 (ascii word)
 
 -- a command, if the line has as many numbers as it takes
-abbrev pub if_so : Bool → Command → Command
-if_so fits command = cond fits command Bad
+abbrev pub if_so : Bool → Command → Option Command
+if_so fits command = cond fits (Some command) None
 
-unfoldable pub by_key : (key : ℕ) → (count : ℕ) → Command
+unfoldable pub by_key : (key : ℕ) → (count : ℕ) → Option Command
 by_key k n =
     cond (k == (key "boot")) (if_so (n == 2) Boot)
     (cond (k == (key "size")) (if_so (n == 1) Size)
@@ -30,7 +33,13 @@ by_key k n =
     (cond (k == (key "show")) (if_so (n == 0) Show)
     (cond (k == (key "tree")) (if_so (n == 0) Tree)
     (cond (k == (key "estate")) (if_so (n == 1) Estate)
-    Bad)))))))
+    None)))))))
 
-unfoldable pub command_of : Line → Command
-command_of l = cond (says_nothing l) Nothing (cond l.bad Bad (by_key l.key l.count))
+-- that command, else a bad line
+abbrev pub or_bad : Option Command → Result (Option Command) BadLine
+or_bad (Some command) = Ok (Some command)
+or_bad None = Err (record {})
+
+-- nothing, where the line is blank or a comment
+unfoldable pub command_of : Line → Result (Option Command) BadLine
+command_of l = cond (says_nothing l) (Ok None) (cond l.bad (Err (record {})) (or_bad (by_key l.key l.count)))

@@ -1,14 +1,16 @@
 -- What a line does to the tables and the control words, how many words are lent after it, and what it writes.
-use Rattle.std.specs.Prelude.{◌≡◌, ℕ, ◌+◌, ◌*◌, Bool, true, false, cond, ◌&&◌, List, [], ◌∷◌, ◌++◌, length, take, drop, replicate, nat_le, slice_index, slice_range}
+use Rattle.std.specs.Prelude.{◌≡◌, ℕ, ◌+◌, ◌*◌, Bool, true, false, cond, ◌&&◌, List, [], ◌∷◌, ◌++◌, None, Some, Ok, Err, OnOk, length, take, drop, replicate, nat_le, slice_index, slice_range}
+use Rattle.std.specs.declared.option.Option.{Option}
+use Rattle.std.specs.declared.result.Result.{Result}
+use Rattle.std.specs.Io.KnownBytes.{Appends}
 use Rattle.model.specs.Edition.{edition32}
 use Rattle.model.specs.Rules.{m_in_range, well_formed}
 use Rattle.model.specs.Tables.{Tables, lent, rows}
 use Rattle.model.specs.Request.{Outcome, boot, request, six_words}
+use Rattle.console.specs.declared.asking.BadLine.{BadLine}
 use Rattle.console.specs.declared.asking.Command.{Command}
-use Rattle.console.specs.declared.asking.Command.TheVariants.{Nothing, Boot, Size, Control, Row, Ask, Show, Tree, Estate, Bad}
-use Rattle.console.specs.declared.command.Desk.{Desk}
-use Rattle.console.specs.declared.output.Pen.{Pen}
-use Rattle.console.specs.Writing.{Writes, ascii}
+use Rattle.console.specs.declared.asking.Command.TheVariants.{Boot, Size, Control, Row, Ask, Show, Tree, Estate}
+use Rattle.console.specs.Writing.{ascii}
 use Rattle.console.specs.Show.{answer_text, show_text}
 use Rattle.console.specs.Drawn.{tree_text}
 
@@ -105,7 +107,6 @@ on_tree s = within s (says s (cond (well_formed edition32 (tables s)) (tree_text
 
 -- a command with the first `count` of a line's 17 numbers; `estate` changes nothing
 unfoldable pub reply : Command → Lending → (numbers : List ℕ) → (count : ℕ) → Reply
-reply Nothing s ns n = says s []
 reply Boot s ns n = on_boot s (slice_index ns 0) (slice_index ns 1)
 reply Size s ns n = on_size s (slice_index ns 0)
 reply Control s ns n = on_control s (slice_index ns 0 ∷ slice_index ns 1 ∷ slice_index ns 2 ∷ slice_index ns 3 ∷ [])
@@ -114,11 +115,9 @@ reply Ask s ns n = on_ask_line s ns n
 reply Show s ns n = on_show s
 reply Tree s ns n = on_tree s
 reply Estate s ns n = says s []
-reply Bad s ns n = says s (ascii "bad\n")
 
 -- what is written is said above; what `estate` writes is not
 abbrev pub is_told : Command → Bool
-is_told Nothing = true
 is_told Boot = true
 is_told Size = true
 is_told Control = true
@@ -127,21 +126,26 @@ is_told Ask = true
 is_told Show = true
 is_told Tree = true
 is_told Estate = false
-is_told Bad = true
+
+-- a line by what it asks for
+abbrev pub line_reply : Result (Option Command) BadLine → Lending → (numbers : List ℕ) → (count : ℕ) → Reply
+line_reply (Ok (Some command)) s ns n = reply command s ns n
+line_reply (Ok None) s ns n = says s []
+line_reply (Err bad) s ns n = says s (ascii "bad\n")
+
+abbrev pub line_told : Result (Option Command) BadLine → Bool
+line_told (Ok (Some command)) = is_told command
+line_told (Ok None) = true
+line_told (Err bad) = true
 
 -- ---- promises
 
--- a text is written, and as much is lent as before
-pub record Says (text : List ℕ) (out : List ℕ) (desk : Desk) (out' : List ℕ) (desk' : Desk) : Type 0 where
-  pub lent : desk'.lent ≡ desk.lent
-  pub said : Writes out desk.pen text out' desk'.pen
-
--- from what is kept, a buffer and a pen, to what is kept then, a buffer and a pen
-pub record Replies (r : Reply) (out : List ℕ) (pen : Pen) (s' : Lending) (out' : List ℕ) (pen' : Pen) : Type 0 where
+-- From what is kept and what a writer holds to what is kept then, always, and to what the writer holds then, where the writing succeeds.
+pub record Replies {E : Type 0} (r : Reply) (s' : Lending) (out out' : Option (List ℕ)) (result : Result Unit E) : Type 0 where
   pub after : s' ≡ r.after
-  pub said : Writes out pen r.text out' pen'
+  pub said : OnOk result (Appends out out' r.text)
 
 -- the same, where what is written is told
-pub record Obeys (told : Bool) (r : Reply) (out : List ℕ) (pen : Pen) (s' : Lending) (out' : List ℕ) (pen' : Pen) : Type 0 where
+pub record Obeys {E : Type 0} (told : Bool) (r : Reply) (s' : Lending) (out out' : Option (List ℕ)) (result : Result Unit E) : Type 0 where
   pub after : s' ≡ r.after
-  pub said : told ≡ true → Writes out pen r.text out' pen'
+  pub said : told ≡ true → OnOk result (Appends out out' r.text)

@@ -1,282 +1,185 @@
 // What a line asks for is done.
-ghost use Rattle.std.specs.Prelude.{◌≡◌, ℕ, ◌≤◌, List, length, take, drop, replicate};
+ghost use Rattle.std.specs.Prelude.{◌≡◌, ◌≤◌, OnOk, drop, length, slice_index, take};
+ghost use Rattle.std.specs.Io.KnownBytes.{Appends};
 ghost use Rattle.console.specs.Asking.{command_of};
-ghost use Rattle.console.specs.Obeying.{Obeys, Replies, Says, boot_lent, fitted, is_told, lend_if, lending, on_ask, on_ask_line, on_boot, on_row, on_show, on_size, on_tree, reply, words_for};
-ghost use Rattle.console.specs.Writing.{ascii};
+ghost use Rattle.console.specs.Obeying.{Lending, Obeys, Replies, fitted, is_told, lend_if, lending, line_reply, line_told, on_ask_line, on_boot, on_row, on_show, on_size, on_tree, reply};
 
-use crate::asking::{Command, command_of};
+use crate::asking::{BadLine, Command, command_of};
 use crate::estate::put_estate;
 use crate::line::Line;
-use crate::output::{Pen, put_text};
 use crate::show::{put_answer, show};
 use crate::tree::draw;
+use std::io::{Result, Write};
+use std::marker::Model;
 use table::figures::{m_in_range, table_words};
 
-// What is kept from line to line: how many words of the table are lent, and what is to be written.
-#[derive(Clone, Copy)]
+// How many words the largest table has.
+const WORDS: usize = 32768;
+
+// What is kept from line to line: the words of the table, of which the first `lent` are lent, and the control words.
+#[derive(Drop)]
 pub struct Desk {
-    pub lent: usize,
-    pub pen: Pen,
+    table: [u32; WORDS],
+    control: [u32; 4],
+    lent: usize,
 }
 
-// A line that is refused.
-fn bad(out: &mut [u8], desk: Desk) -> Desk
-    ensures { Says (ascii "bad\n") out.old desk out.new result }
-{
-    let pen = put_text(out, desk.pen, b"bad\n");
-    Desk {
-        lent: desk.lent,
-        pen,
-    }
+impl Model for Desk {
+    ghost Value = { Lending };
+
+    ghost view = { λ d. lending d.table d.control d.lent };
+
+    ghost invariant = { λ d. d.lent ≤ 32768 };
 }
 
-// A line that is done, with nothing else to say.
-fn ok(out: &mut [u8], desk: Desk) -> Desk
-    ensures { Says (ascii "ok\n") out.old desk out.new result }
-{
-    let pen = put_text(out, desk.pen, b"ok\n");
-    Desk {
-        lent: desk.lent,
-        pen,
-    }
-}
-
-// Sets words to 0.
-fn clear(words: &mut [u32])
-    ensures { words.new ≡ replicate (length words.old) 0 }
-{
-    let mut i = 0;
-    while i < words.len() {
-        words[i] = 0;
-        i += 1;
-    }
-}
-
-// The words of a table for an m in Boot's range, else 0.
-fn words_for(m: u32) -> usize
-    ensures { result ≡ words_for m }
-{
-    if !m_in_range(m) {
-        return 0;
-    }
-    table_words(m)
-}
-
-// The first words of the table become 0 and are lent, if it has as many; else what was lent stays so.
-fn lend(table: &mut [u32], words: usize, lent: usize) -> usize
-    ensures { (control : List ℕ) → lending table.new control result ≡ lend_if (lending table.old control lent) words }
-{
-    if words <= table.len() {
-        clear(&mut table[0..words]);
-        return words;
-    }
-    lent
-}
-
-// Boot's table: for an m in range a zero table of the length that fits, else what was lent.
-fn lend_for(table: &mut [u32], m: u32, lent: usize) -> usize
-    ensures { (control : List ℕ) → lending table.new control result ≡ fitted (lending table.old control lent) m }
-{
-    let words = words_for(m);
-    if words == 0 {
-        return lent;
-    }
-    lend(table, words, lent)
-}
-
-// Boot on the lent table, and its answer.
-fn boot_lent(
-    table: &mut [u32],
-    control: &mut [u32; 4],
-    out: &mut [u8],
-    desk: Desk,
-    m: u32,
-    radix: u32,
-) -> Desk
-    ensures { Replies (boot_lent (lending table.old control.old desk.lent) m radix) out.old desk.pen (lending table.new control.new result.lent) out.new result.pen }
-{
-    let lent = desk.lent;
-    if lent <= table.len() {
-        let answer = zhvanirek_core::boot(&mut table[0..lent], control, m, radix);
-        let pen = put_answer(out, desk.pen, zhvanirek_core::answer_words(answer));
-        return Desk { lent, pen };
-    }
-    desk
-}
-
-// A request on the lent table, and its answer.
-fn request_lent(
-    table: &mut [u32],
-    control: &mut [u32; 4],
-    out: &mut [u8],
-    desk: Desk,
-    caller: u32,
-    message: &[u32],
-) -> Desk
-    ensures { Replies (on_ask (lending table.old control.old desk.lent) caller message.now) out.old desk.pen (lending table.new control.new result.lent) out.new result.pen }
-{
-    let lent = desk.lent;
-    if lent <= table.len() {
-        let answer = zhvanirek_core::request(&mut table[0..lent], control, caller, message);
-        let pen = put_answer(out, desk.pen, zhvanirek_core::answer_words(answer));
-        return Desk { lent, pen };
-    }
-    desk
-}
-
-// `boot M R`
-fn boot(
-    table: &mut [u32],
-    control: &mut [u32; 4],
-    out: &mut [u8],
-    desk: Desk,
-    m: u32,
-    radix: u32,
-) -> Desk
-    ensures { Replies (on_boot (lending table.old control.old desk.lent) m radix) out.old desk.pen (lending table.new control.new result.lent) out.new result.pen }
-{
-    let mut ready = desk;
-    ready.lent = lend_for(table, m, desk.lent);
-    boot_lent(table, control, out, ready, m, radix)
-}
-
-// `ask CALLER W0 W1 ..`: a request, on the lent table, of the words after the first of a line's numbers.
-fn ask(
-    table: &mut [u32],
-    control: &mut [u32; 4],
-    out: &mut [u8],
-    desk: Desk,
-    numbers: &[u32],
-    count: usize,
-) -> Desk
-    ensures { Replies (on_ask_line (lending table.old control.old desk.lent) numbers.now count) out.old desk.pen (lending table.new control.new result.lent) out.new result.pen }
-{
-    if count < 1 {
-        return bad(out, desk);
-    }
-    if numbers.len() < count {
-        return bad(out, desk);
-    }
-    request_lent(table, control, out, desk, numbers[0], &numbers[1..count])
-}
-
-// `size N`: a table of N zero words, and control words 0.
-fn size(table: &mut [u32], control: &mut [u32; 4], out: &mut [u8], desk: Desk, n: u32) -> Desk
-    ensures { Replies (on_size (lending table.old control.old desk.lent) n) out.old desk.pen (lending table.new control.new result.lent) out.new result.pen }
-{
-    let words = n as usize;
-    if table.len() < words {
-        return bad(out, desk);
-    }
-    let mut ready = desk;
-    ready.lent = lend(table, words, desk.lent);
-    *control = [0; 4];
-    ok(out, ready)
-}
-
-// The words of a row become those of a line.
-fn put_row(row: &mut [u32], words: &[u32])
-    requires { length row.old ≡ length words.now }
-    ensures { row.new ≡ words.now }
-{
-    let mut i = 0;
-    while i < words.len() {
-        row[i] = words[i];
-        i += 1;
-    }
-}
-
-// `row K A B C D E F G H`: sets row K, if it is wholly in the lent table.
-fn set_row(table: &mut [u32], out: &mut [u8], desk: Desk, k: u32, numbers: &[u32]) -> Desk
-    requires { 9 ≤ length numbers.now }
-    ensures { (control : List ℕ) → Replies (on_row (lending table.old control desk.lent) k (take 8 (drop 1 numbers.now))) out.old desk.pen (lending table.new control result.lent) out.new result.pen }
-{
-    let lent = desk.lent;
-    let from = k as usize * 8;
-    let end = from + 8;
-    if lent < end {
-        return bad(out, desk);
-    }
-    if table.len() < end {
-        return bad(out, desk);
-    }
-    put_row(&mut table[from..end], &numbers[1..9]);
-    ok(out, desk)
-}
-
-// `show`
-fn show_lent(table: &[u32], control: &[u32; 4], out: &mut [u8], desk: Desk) -> Desk
-    ensures { Says (on_show (lending table.now control.now desk.lent)).text out.old desk out.new result }
-{
-    let lent = desk.lent;
-    if lent <= table.len() {
-        let pen = show(&table[0..lent], control, out, desk.pen);
-        return Desk { lent, pen };
-    }
-    desk
-}
-
-// `tree`, of tables that are well-formed.
-fn draw_lent(table: &[u32], control: &[u32; 4], out: &mut [u8], desk: Desk) -> Desk
-    ensures { Says (on_tree (lending table.now control.now desk.lent)).text out.old desk out.new result }
-{
-    let lent = desk.lent;
-    if table.len() < lent {
-        return desk;
-    }
-    let tables = &table[0..lent];
-    if !rules::check(tables, control) {
-        return bad(out, desk);
-    }
-    let pen = draw(tables, control[2], control[3], out, desk.pen);
-    Desk { lent, pen }
-}
-
-// `estate ROW`, of tables that are well-formed and have that row.
-fn estate_lent(table: &[u32], control: &[u32; 4], out: &mut [u8], desk: Desk, row: u32) -> Desk
-    ensures { result.lent ≡ desk.lent }
-{
-    let lent = desk.lent;
-    if table.len() < lent {
-        return desk;
-    }
-    let end = row as usize * 8 + 8;
-    if lent < end {
-        return bad(out, desk);
-    }
-    let tables = &table[0..lent];
-    if !rules::check(tables, control) {
-        return bad(out, desk);
-    }
-    let pen = put_estate(tables, out, desk.pen, row);
-    Desk { lent, pen }
-}
-
-// Does what a line asks for.
-pub fn obey(
-    table: &mut [u32],
-    control: &mut [u32; 4],
-    out: &mut [u8],
-    desk: Desk,
-    line: Line,
-    numbers: &[u32; 17],
-) -> Desk
-    ensures { Obeys (is_told (command_of line)) (reply (command_of line) (lending table.old control.old desk.lent) numbers.now line.count) out.old desk.pen (lending table.new control.new result.lent) out.new result.pen }
-{
-    let command = command_of(line);
-    match command {
-        Command::Nothing => desk,
-        Command::Boot => boot(table, control, out, desk, numbers[0], numbers[1]),
-        Command::Size => size(table, control, out, desk, numbers[0]),
-        Command::Control => {
-            *control = [numbers[0], numbers[1], numbers[2], numbers[3]];
-            ok(out, desk)
+impl Desk {
+    // Nothing is lent.
+    pub fn new() -> Desk {
+        Desk {
+            table: [0; WORDS],
+            control: [0; 4],
+            lent: 0,
         }
-        Command::Row => set_row(table, out, desk, numbers[0], numbers),
-        Command::Ask => ask(table, control, out, desk, numbers, line.count),
-        Command::Show => show_lent(table, control, out, desk),
-        Command::Tree => draw_lent(table, control, out, desk),
-        Command::Estate => estate_lent(table, control, out, desk, numbers[0]),
-        Command::Bad => bad(out, desk),
+    }
+
+    // The first words of the table become 0 and are lent.
+    fn lend(&mut self, words: usize)
+        requires { words ≤ 32768 }
+        ensures { self.new ≡ lend_if self.old words }
+    {
+        self.table[..words].fill(0);
+        self.lent = words;
+    }
+
+    // What is lent: the words of the table, and the control words.
+    fn lent(&self) -> (&[u32], &[u32; 4])
+        ensures words { result.0.now ≡ take self.now.count self.now.table }
+        ensures control { result.1.now ≡ self.now.control }
+        ensures room { self.now.count ≤ length self.now.table }
+    {
+        (&self.table[..self.lent], &self.control)
+    }
+
+    // Boot's table: for an m in range a zero table of the length that fits, else what was lent.
+    fn fit(&mut self, m: u32)
+        ensures { self.new ≡ fitted self.old m }
+    {
+        if m_in_range(m) {
+            self.lend(table_words(m));
+        }
+    }
+
+    // `boot M R`
+    fn boot<W: Write>(&mut self, m: u32, radix: u32, out: &mut W) -> Result<()>
+        ensures { Replies (on_boot self.old m radix) self.new (W.contents out.old) (W.contents out.new) result }
+    {
+        self.fit(m);
+        let mut control = self.control;
+        let answer = zhvanirek_core::boot(&mut self.table[..self.lent], &mut control, m, radix);
+        self.control = control;
+        put_answer(out, zhvanirek_core::answer_words(answer))
+    }
+
+    // `size N`: a table of N zero words, and control words 0.
+    fn size<W: Write>(&mut self, n: u32, out: &mut W) -> Result<()>
+        ensures { Replies (on_size self.old n) self.new (W.contents out.old) (W.contents out.new) result }
+    {
+        let table: &[u32] = &self.table;
+        if table.len() < n as usize {
+            return out.write_all(b"bad\n");
+        }
+        self.lend(n as usize);
+        self.control = [0; 4];
+        out.write_all(b"ok\n")
+    }
+
+    // `row K A B C D E F G H`: sets row K, if it is wholly in the lent table.
+    fn row<W: Write>(&mut self, numbers: &[u32; 17], out: &mut W) -> Result<()>
+        ensures { Replies (on_row self.old (slice_index numbers.now 0) (take 8 (drop 1 numbers.now))) self.new (W.contents out.old) (W.contents out.new) result }
+    {
+        let from = numbers[0] as usize * 8;
+        if self.lent < from + 8 {
+            return out.write_all(b"bad\n");
+        }
+        self.table[from..from + 8].copy_from_slice(&numbers[1..9]);
+        out.write_all(b"ok\n")
+    }
+
+    // `ask CALLER W0 W1 ..`: a request of the words after the first of a line's numbers.
+    fn ask<W: Write>(&mut self, line: &Line, out: &mut W) -> Result<()>
+        ensures { Replies (on_ask_line self.old line.now.numbers line.now.count) self.new (W.contents out.old) (W.contents out.new) result }
+    {
+        let numbers: &[u32] = &line.numbers;
+        if line.count < 1 || numbers.len() < line.count {
+            return out.write_all(b"bad\n");
+        }
+        let mut control = self.control;
+        let answer = zhvanirek_core::request(
+            &mut self.table[..self.lent],
+            &mut control,
+            numbers[0],
+            &numbers[1..line.count],
+        );
+        self.control = control;
+        put_answer(out, zhvanirek_core::answer_words(answer))
+    }
+
+    // `show`
+    fn show<W: Write>(&self, out: &mut W) -> Result<()>
+        ensures { OnOk result (Appends (W.contents out.old) (W.contents out.new) (on_show self.now).text) }
+    {
+        let (table, control) = self.lent();
+        show(out, table, control)
+    }
+
+    // `tree`, of tables that are well-formed.
+    fn tree<W: Write>(&self, out: &mut W) -> Result<()>
+        ensures { OnOk result (Appends (W.contents out.old) (W.contents out.new) (on_tree self.now).text) }
+    {
+        let (table, control) = self.lent();
+        if !rules::check(table, control) {
+            return out.write_all(b"bad\n");
+        }
+        draw(out, table, control[2], control[3])
+    }
+
+    // `estate ROW`, of tables that are well-formed and have that row.
+    fn estate<W: Write>(&self, row: u32, out: &mut W) -> Result<()> {
+        let (table, control) = self.lent();
+        if table.len() < row as usize * 8 + 8 || !rules::check(table, control) {
+            return out.write_all(b"bad\n");
+        }
+        put_estate(out, table, row)
+    }
+
+    // A command is done, with a line's numbers.
+    fn run<W: Write>(&mut self, command: Command, line: &Line, out: &mut W) -> Result<()>
+        ensures { Obeys (is_told command) (reply command self.old line.now.numbers line.now.count) self.new (W.contents out.old) (W.contents out.new) result }
+    {
+        let n = &line.numbers;
+        match command {
+            Command::Boot => self.boot(n[0], n[1], out),
+            Command::Size => self.size(n[0], out),
+            Command::Control => {
+                self.control = [n[0], n[1], n[2], n[3]];
+                out.write_all(b"ok\n")
+            }
+            Command::Row => self.row(n, out),
+            Command::Ask => self.ask(line, out),
+            Command::Show => self.show(out),
+            Command::Tree => self.tree(out),
+            Command::Estate => self.estate(n[0], out),
+        }
+    }
+
+    // Does what a line asks for.
+    pub fn obey<W: Write>(&mut self, line: &Line, out: &mut W) -> Result<()>
+        ensures { Obeys (line_told (command_of line.now)) (line_reply (command_of line.now) self.old line.now.numbers line.now.count) self.new (W.contents out.old) (W.contents out.new) result }
+    {
+        match command_of(line) {
+            Ok(Some(command)) => self.run(command, line, out),
+            Ok(None) => Ok(()),
+            Err(BadLine) => out.write_all(b"bad\n"),
+        }
     }
 }

@@ -1,97 +1,125 @@
-// Text that is written: collected in a lent buffer, and handed on when that is full and at the end of each turn.
-ghost use Rattle.std.specs.Prelude.{◌≡◌, [], ◌∷◌};
-ghost use Rattle.console.specs.Writing.{HandsOn, HasRoom, Writes, decimal, spaced};
+// Text that is written: numbers in decimal, and a page on which bytes are collected before they are handed on.
+ghost use Rattle.std.specs.Prelude.{◌≡◌, ◌≤◌, [], ◌∷◌, OnOk, OnErr, length, slice_range};
+ghost use Rattle.std.specs.Io.KnownBytes.{Appends, Keeps};
+ghost use Rattle.console.specs.Writing.{decimal, spaced};
 
-// The standard output.
-const STDOUT: i32 = 1;
+use std::io::{Error, ErrorKind, Result, Write};
 
-// How many bytes the buffer holds, and whether a write failed.
-#[derive(Clone, Copy)]
-pub struct Pen {
-    pub at: usize,
-    pub lost: bool,
+// How many bytes a page holds.
+const PAGE: usize = 65536;
+
+// A writer with a page before it, whose bytes between `from` and `at` are still to be handed on.
+#[derive(Drop)]
+pub struct Pen<W> {
+    writer: W,
+    page: [u8; PAGE],
+    from: usize,
+    at: usize,
+    ghost in_order: { from ≤ at },
+    ghost on_page: { at ≤ 65536 },
 }
 
-// Hands on what the buffer holds.
-pub fn flush(out: &[u8], pen: Pen) -> Pen
-    ensures { HandsOn out.now pen result }
-{
-    let at = pen.at;
-    if at <= out.len() {
-        let written = io::write_all(STDOUT, &out[..at]);
-        return Pen {
+impl<W: Write> Pen<W> {
+    ghost use Rattle.console.specs.Pen.{pen_contents, pen_text};
+
+    // An empty page before a writer.
+    pub fn new(writer: W) -> Pen<W> {
+        Pen {
+            writer,
+            page: [0; PAGE],
+            from: 0,
             at: 0,
-            lost: pen.lost || !written,
+        }
+    }
+
+    // Hands on what the page holds. What a failure leaves stays on the page.
+    fn hand_on(&mut self) -> Result<()>
+        ensures bytes { Keeps (pen_contents W.contents self.old) (pen_contents W.contents self.new) }
+        ensures start { OnOk result (self.new.at ≡ 0) }
+    {
+        let (from, result) = write_out(&mut self.writer, &self.page[..self.at], self.from);
+        self.from = from;
+        result?;
+        self.from = 0;
+        self.at = 0;
+        Ok(())
+    }
+
+    // A byte. A full page is handed on first.
+    fn put(&mut self, byte: u8) -> Result<()>
+        ensures ok { OnOk result (Appends (pen_contents W.contents self.old) (pen_contents W.contents self.new) (byte ∷ [])) }
+        ensures err { OnErr result (Keeps (pen_contents W.contents self.old) (pen_contents W.contents self.new)) }
+    {
+        if self.at == PAGE {
+            self.hand_on()?;
+        }
+        self.page[self.at] = byte;
+        self.at += 1;
+        Ok(())
+    }
+}
+
+// Writes the bytes of a page from a place on, until all are written or a write fails: up to where, and how that went.
+fn write_out<W: Write>(writer: &mut W, page: &[u8], from: usize) -> (usize, Result<()>)
+    requires { from ≤ length page.now }
+    ensures start { from ≤ result.0 }
+    ensures end { result.0 ≤ length page.now }
+    ensures all { OnOk result.1 (result.0 ≡ length page.now) }
+    ensures bytes { Appends (W.contents writer.old) (W.contents writer.new) (slice_range page.now from result.0) }
+{
+    let mut at = from;
+    while at < page.len() {
+        match writer.write(&page[at..]) {
+            Ok(0) => return (at, Err(Error::from(ErrorKind::WriteZero))),
+            Ok(n) => at += n,
+            Err(e) => return (at, Err(e)),
+        }
+    }
+    (at, Ok(()))
+}
+
+impl<W: Write> Write for Pen<W> {
+    ghost use Rattle.console.specs.Pen.{pen_contents};
+
+    ghost contents = { pen_contents W.contents };
+
+    fn write(&mut self, buf: &[u8]) -> Result<usize> {
+        let Some(&byte) = buf.first() else {
+            return Ok(0);
         };
+        self.put(byte)?;
+        Ok(1)
     }
-    Pen { at: 0, lost: true }
-}
 
-// The pen with room for a byte: a full buffer is handed on first.
-fn with_room(out: &[u8], pen: Pen) -> Pen
-    ensures { HasRoom out.now pen result }
-{
-    if pen.at < out.len() {
-        return pen;
+    fn flush(&mut self) -> Result<()> {
+        self.hand_on()?;
+        self.writer.flush()
     }
-    flush(out, pen)
-}
 
-// A byte.
-pub fn put_byte(out: &mut [u8], pen: Pen, byte: u8) -> Pen
-    ensures { Writes out.old pen (byte ∷ []) out.new result }
-{
-    let ready = with_room(out, pen);
-    let at = ready.at;
-    if at < out.len() {
-        out[at] = byte;
-        return Pen {
-            at: at + 1,
-            lost: ready.lost,
-        };
+    fn write_all(&mut self, buf: &[u8]) -> Result<()> {
+        for &byte in buf {
+            self.put(byte)?;
+        }
+        Ok(())
     }
-    ready
-}
-
-// The bytes of a text.
-pub fn put_text(out: &mut [u8], pen: Pen, text: &[u8]) -> Pen
-    ensures { Writes out.old pen text.now out.new result }
-{
-    let mut p = pen;
-    let mut i = 0;
-    while i < text.len() {
-        p = put_byte(out, p, text[i]);
-        i += 1;
-    }
-    p
-}
-
-// A word as a number of 64 bits.
-fn wide(word: u32) -> u64
-    ensures { result ≡ word }
-{
-    word as u64
 }
 
 // A number in decimal.
-pub fn put_number(out: &mut [u8], pen: Pen, n: u64) -> Pen
-    ensures { Writes out.old pen (decimal n) out.new result }
+pub fn put_number<W: Write>(out: &mut W, n: u64) -> Result<()>
+    ensures { OnOk result (Appends (W.contents out.old) (W.contents out.new) (decimal n)) }
 {
     let mut digits = [0u8; 20];
     let k = io::decimal(n, &mut digits);
-    put_text(out, pen, &digits[..k])
+    out.write_all(&digits[..k])
 }
 
 // Numbers, with a space before each.
-pub fn put_numbers(out: &mut [u8], pen: Pen, numbers: &[u32]) -> Pen
-    ensures { Writes out.old pen (spaced numbers.now) out.new result }
+pub fn put_numbers<W: Write>(out: &mut W, numbers: &[u32]) -> Result<()>
+    ensures { OnOk result (Appends (W.contents out.old) (W.contents out.new) (spaced numbers.now)) }
 {
-    let mut p = pen;
-    let mut i = 0;
-    while i < numbers.len() {
-        p = put_byte(out, p, b' ');
-        p = put_number(out, p, wide(numbers[i]));
-        i += 1;
+    for &n in numbers {
+        out.write_all(b" ")?;
+        put_number(out, n.into())?;
     }
-    p
+    Ok(())
 }

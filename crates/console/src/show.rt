@@ -1,62 +1,52 @@
 // The tables as lines of text.
-ghost use Rattle.std.specs.Prelude.{◌≡◌, ◌+◌, ◌*◌, ◌≤◌, length};
+ghost use Rattle.std.specs.Prelude.{◌≡◌, ◌+◌, ◌*◌, ◌≤◌, length, OnOk};
+ghost use Rattle.std.specs.Io.KnownBytes.{Appends};
 ghost use Rattle.console.specs.Show.{all_zero, answer_text, row_text, show_text};
-ghost use Rattle.console.specs.Writing.{Writes};
 
-use crate::output::{Pen, put_byte, put_number, put_numbers, put_text};
+use crate::output::{put_number, put_numbers};
+use std::io::{Result, Write};
 
 // The six words of an answer, as a line.
-pub fn put_answer(out: &mut [u8], pen: Pen, words: [u32; 6]) -> Pen
-    ensures { Writes out.old pen (answer_text words) out.new result }
+pub fn put_answer<W: Write>(out: &mut W, words: [u32; 6]) -> Result<()>
+    ensures { OnOk result (Appends (W.contents out.old) (W.contents out.new) (answer_text words)) }
 {
-    let mut p = put_number(out, pen, words[0] as u64);
-    p = put_numbers(out, p, &words[1..6]);
-    put_byte(out, p, b'\n')
+    put_number(out, words[0].into())?;
+    put_numbers(out, &words[1..6])?;
+    out.write_all(b"\n")
 }
 
 // All words are 0.
 fn all_zero(words: &[u32]) -> bool
     ensures { result ≡ all_zero words.now }
 {
-    let mut i = 0;
-    while i < words.len() {
-        if words[i] != 0 {
-            return false;
-        }
-        i += 1;
-    }
-    true
+    words.iter().all(|&word| word == 0)
 }
 
 // Row k, if a word of it is not 0.
-fn show_row(table: &[u32], out: &mut [u8], pen: Pen, k: usize) -> Pen
+fn show_row<W: Write>(out: &mut W, table: &[u32], k: usize) -> Result<()>
     requires { k * 8 + 8 ≤ length table.now }
-    ensures { Writes out.old pen (row_text table.now k) out.new result }
+    ensures { OnOk result (Appends (W.contents out.old) (W.contents out.new) (row_text table.now k)) }
 {
-    let from = k * 8;
-    let end = from + 8;
-    let row = &table[from..end];
+    let row = &table[k * 8..k * 8 + 8];
     if all_zero(row) {
-        return pen;
+        return Ok(());
     }
-    let mut p = put_text(out, pen, b"row ");
-    p = put_number(out, p, k as u64);
-    p = put_numbers(out, p, row);
-    put_byte(out, p, b'\n')
+    out.write_all(b"row ")?;
+    put_number(out, k as u64)?;
+    put_numbers(out, row)?;
+    out.write_all(b"\n")
 }
 
 // The control words, each row with a word that is not 0, and `end`.
-pub fn show(table: &[u32], control: &[u32; 4], out: &mut [u8], pen: Pen) -> Pen
-    ensures { Writes out.old pen (show_text table.now control.now) out.new result }
+#[tactic(auto, unfolding(crate::specs::Show::show_text))]
+pub fn show<W: Write>(out: &mut W, table: &[u32], control: &[u32; 4]) -> Result<()>
+    ensures { OnOk result (Appends (W.contents out.old) (W.contents out.new) (show_text table.now control.now)) }
 {
-    let mut p = put_text(out, pen, b"control");
-    p = put_numbers(out, p, control);
-    p = put_byte(out, p, b'\n');
-    let rows = table.len() / 8;
-    let mut k = 0;
-    while k < rows {
-        p = show_row(table, out, p, k);
-        k += 1;
+    out.write_all(b"control")?;
+    put_numbers(out, control)?;
+    out.write_all(b"\n")?;
+    for k in 0..table.len() / 8 {
+        show_row(out, table, k)?;
     }
-    put_text(out, p, b"end\n")
+    out.write_all(b"end\n")
 }

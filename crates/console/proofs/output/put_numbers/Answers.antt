@@ -1,13 +1,11 @@
 -- Each turn puts a space and the next number.
-use mathlib.Core.Path.{ap, ◌∙◌}
-use native.Mathlib.Omega.{arith}
-use Rattle.console.specs.Writing.{decimal}
-use Rattle.console.proofs.Writing.{alike, ◌then◌, keeps_length, spaced_more}
+use Rattle.std.proofs.Common.{subst}
+use Rattle.std.specs.Io.KnownBytes.{Appends}
+use Rattle.std.proofs.KnownBytes.{Appends-trans}
+use Rattle.console.proofs.Writing.{spaced_more}
 use Rattle.console.proofs.output.put_numbers.Goals as goal
 
-pub loop-i-preserved : goal.loop-i-preserved
-loop-i-preserved c = (
-  omega arith,
-  keeps_length c.put_number-p.ensures ∙ keeps_length c.put_byte-p.ensures ∙ c.loop-i.invariant.1,
-  alike (spaced_more _ _ c.loop-i-test.true) (c.loop-i.invariant.2 then (c.put_byte-p.ensures then alike (ap decimal c.wide.ensures) c.put_number-p.ensures)),
-)
+pub loop-n-preserved : goal.loop-n-preserved
+loop-n-preserved g c =
+    let number = Appends-trans _ _ _ _ _ c.in_ok-write_all.ensures.bytes (rw c.into.ensures at c.in_ok-put_number.ensures) in
+    subst (Appends _ _) (spaced_more c.args.numbers.now c.loop-n.n-index c.loop-n-test.true) (Appends-trans _ _ _ _ _ c.loop-n.invariant number)

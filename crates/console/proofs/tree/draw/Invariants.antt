@@ -1,11 +1,8 @@
--- Each turn draws the next row of the list.
-use Rattle.std.specs.Prelude.{◌≡◌, ℕ, List, ◌++◌, length}
-use Rattle.console.specs.Writing.{Writes}
+-- Each turn draws the next row of the list: what is drawn, and what is still to be drawn.
+use Rattle.std.specs.Prelude.{◌≡◌, ℕ, ◌-◌, List, ◌++◌}
+use Rattle.std.specs.Io.KnownBytes.{Appends}
 use Rattle.console.specs.Drawn.{drawn_rows}
 use Rattle.console.proofs.tree.draw.Given as goal
 
-abbrev pub invariant-loop-left : goal.invariant-loop-left
-invariant-loop-left l = (length l.out ≡ length l.initial.out) × ((before : List ℕ) × Writes l.initial.out l.initial.p before l.out l.p × (before ++ drawn_rows l.table l.left l.row ≡ drawn_rows l.table l.count l.head))
-
-abbrev pub decreases-loop-left : goal.decreases-loop-left
-decreases-loop-left l = l.left
+abbrev pub invariant-loop : goal.invariant-loop
+invariant-loop g l = (before : List ℕ) × Appends (g.W.Write.contents l.initial.out) (g.W.Write.contents l.out) before × (before ++ drawn_rows l.table (l.count - l.counter) l.row ≡ drawn_rows l.table l.count l.head)
