@@ -172,7 +172,8 @@ impl Desk {
         }
     }
 
-    // Does what a line asks for.
+    // Does what a line asks for. It stands apart, so that what is done for each byte stays small.
+    #[inline(never)]
     pub fn obey<W: Write>(&mut self, line: &Line, out: &mut W) -> Result<()>
         ensures { Obeys (line_told (command_of line.now)) (line_reply (command_of line.now) self.old line.now.numbers line.now.count) self.new (W.contents out.old) (W.contents out.new) result }
     {

@@ -100,7 +100,8 @@ impl Estate {
     }
 }
 
-// The rows of the estate of a row, ascending, as a line.
+// The rows of the estate of a row, ascending, as a line. It stands apart for its large arrays.
+#[inline(never)]
 pub fn put_estate<W: Write>(out: &mut W, table: &[u32], row: u32) -> Result<()> {
     let mut estate = Estate {
         marks: [false; MOST_ROWS],

@@ -1,9 +1,9 @@
 // Text that is written: numbers in decimal, and a page on which bytes are collected before they are handed on.
-ghost use Rattle.std.specs.Prelude.{◌≡◌, ◌≤◌, [], ◌∷◌, OnOk, OnErr, length, slice_range};
+ghost use Rattle.std.specs.Prelude.{◌≡◌, ◌+◌, ◌≤◌, OnOk, length, slice_range};
 ghost use Rattle.std.specs.Io.KnownBytes.{Appends, Keeps};
 ghost use Rattle.console.specs.Writing.{decimal, spaced};
 
-use std::io::{Error, ErrorKind, Result, Write};
+use std::io::{ErrorKind, Result as IoResult, Write};
 
 // How many bytes a page holds.
 const PAGE: usize = 65536;
@@ -33,7 +33,7 @@ impl<W: Write> Pen<W> {
     }
 
     // Hands on what the page holds. What a failure leaves stays on the page.
-    fn hand_on(&mut self) -> Result<()>
+    fn hand_on(&mut self) -> Result<(), ErrorKind>
         ensures bytes { Keeps (pen_contents W.contents self.old) (pen_contents W.contents self.new) }
         ensures start { OnOk result (self.new.at ≡ 0) }
     {
@@ -45,22 +45,36 @@ impl<W: Write> Pen<W> {
         Ok(())
     }
 
-    // A byte. A full page is handed on first.
-    fn put(&mut self, byte: u8) -> Result<()>
-        ensures ok { OnOk result (Appends (pen_contents W.contents self.old) (pen_contents W.contents self.new) (byte ∷ [])) }
-        ensures err { OnErr result (Keeps (pen_contents W.contents self.old) (pen_contents W.contents self.new)) }
+    // A text that there is room for.
+    fn put(&mut self, text: &[u8])
+        requires { self.old.at + length text.now ≤ 65536 }
+        ensures { Appends (pen_contents W.contents self.old) (pen_contents W.contents self.new) text.now }
     {
-        if self.at == PAGE {
-            self.hand_on()?;
+        let mut at = self.at;
+        for &byte in text {
+            self.page[at] = byte;
+            at += 1;
         }
-        self.page[self.at] = byte;
-        self.at += 1;
+        self.at = at;
+    }
+
+    // A text that there is no room for: the page is handed on first. It stands apart, so that the test for room is inlined.
+    #[cold]
+    #[inline(never)]
+    fn put_cold(&mut self, text: &[u8]) -> Result<(), ErrorKind>
+        ensures { OnOk result (Appends (pen_contents W.contents self.old) (pen_contents W.contents self.new) text.now) }
+    {
+        self.hand_on()?;
+        if PAGE < text.len() {
+            return write_out(&mut self.writer, text, 0).1;
+        }
+        self.put(text);
         Ok(())
     }
 }
 
 // Writes the bytes of a page from a place on, until all are written or a write fails: up to where, and how that went.
-fn write_out<W: Write>(writer: &mut W, page: &[u8], from: usize) -> (usize, Result<()>)
+fn write_out<W: Write>(writer: &mut W, page: &[u8], from: usize) -> (usize, Result<(), ErrorKind>)
     requires { from ≤ length page.now }
     ensures start { from ≤ result.0 }
     ensures end { result.0 ≤ length page.now }
@@ -70,9 +84,9 @@ fn write_out<W: Write>(writer: &mut W, page: &[u8], from: usize) -> (usize, Resu
     let mut at = from;
     while at < page.len() {
         match writer.write(&page[at..]) {
-            Ok(0) => return (at, Err(Error::from(ErrorKind::WriteZero))),
+            Ok(0) => return (at, Err(ErrorKind::WriteZero)),
             Ok(n) => at += n,
-            Err(e) => return (at, Err(e)),
+            Err(e) => return (at, Err(e.kind())),
         }
     }
     (at, Ok(()))
@@ -83,29 +97,33 @@ impl<W: Write> Write for Pen<W> {
 
     ghost contents = { pen_contents W.contents };
 
-    fn write(&mut self, buf: &[u8]) -> Result<usize> {
-        let Some(&byte) = buf.first() else {
-            return Ok(0);
-        };
-        self.put(byte)?;
-        Ok(1)
+    fn write(&mut self, buf: &[u8]) -> IoResult<usize> {
+        if self.at == PAGE {
+            self.hand_on()?;
+        }
+        let n = buf.len().min(PAGE - self.at);
+        self.put(&buf[..n]);
+        Ok(n)
     }
 
-    fn flush(&mut self) -> Result<()> {
+    fn flush(&mut self) -> IoResult<()> {
         self.hand_on()?;
         self.writer.flush()
     }
 
-    fn write_all(&mut self, buf: &[u8]) -> Result<()> {
-        for &byte in buf {
-            self.put(byte)?;
+    #[inline(always)]
+    fn write_all(&mut self, buf: &[u8]) -> IoResult<()> {
+        if PAGE - self.at < buf.len() {
+            self.put_cold(buf)?;
+        } else {
+            self.put(buf);
         }
         Ok(())
     }
 }
 
 // A number in decimal.
-pub fn put_number<W: Write>(out: &mut W, n: u64) -> Result<()>
+pub fn put_number<W: Write>(out: &mut W, n: u64) -> IoResult<()>
     ensures { OnOk result (Appends (W.contents out.old) (W.contents out.new) (decimal n)) }
 {
     let mut digits = [0u8; 20];
@@ -114,7 +132,7 @@ pub fn put_number<W: Write>(out: &mut W, n: u64) -> Result<()>
 }
 
 // Numbers, with a space before each.
-pub fn put_numbers<W: Write>(out: &mut W, numbers: &[u32]) -> Result<()>
+pub fn put_numbers<W: Write>(out: &mut W, numbers: &[u32]) -> IoResult<()>
     ensures { OnOk result (Appends (W.contents out.old) (W.contents out.new) (spaced numbers.now)) }
 {
     for &n in numbers {
