@@ -58,8 +58,6 @@ pub fn command_of(line: &Line) -> Result<Option<Command>, BadLine>
     if line.bad {
         return Err(BadLine);
     }
-    match by_key(line.key, line.count) {
-        Some(command) => Ok(Some(command)),
-        None => Err(BadLine),
-    }
+    let command = by_key(line.key, line.count).ok_or(BadLine)?;
+    Ok(Some(command))
 }

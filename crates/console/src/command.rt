@@ -8,7 +8,7 @@ use crate::asking::{BadLine, Command, command_of};
 use crate::estate::put_estate;
 use crate::line::Line;
 use crate::show::{put_answer, show};
-use crate::tree::draw;
+use crate::tree::{draw, has_row};
 use std::io::{Result, Write};
 use std::marker::Model;
 use table::figures::{m_in_range, table_words};
@@ -146,7 +146,7 @@ impl Desk {
     // `estate ROW`, of tables that are well-formed and have that row.
     fn estate<W: Write>(&self, row: u32, out: &mut W) -> Result<()> {
         let (table, control) = self.lent();
-        if table.len() < row as usize * 8 + 8 || !rules::check(table, control) {
+        if !has_row(table, row) || !rules::check(table, control) {
             return out.write_all(b"bad\n");
         }
         put_estate(out, table, row)

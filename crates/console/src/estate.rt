@@ -3,7 +3,7 @@
 ghost use Rattle.std.specs.Prelude.{◌≤◌};
 
 use crate::output::put_number;
-use crate::tree::next_row;
+use crate::tree::{has_row, next_row};
 use model::{CNODE, Cap, EMPTY, Row, UNTYPED};
 use std::io::{Result, Write};
 use table::caps::same_object;
@@ -20,11 +20,7 @@ struct Estate {
 
 // A row of the table is deeper than a depth.
 fn is_deeper(table: &[u32], row: u32, depth: u32) -> bool {
-    let end = row as usize * 8 + 8;
-    if end <= table.len() {
-        return depth < table::word(table, Row(row), 7);
-    }
-    false
+    has_row(table, row) && depth < table::word(table, Row(row), 7)
 }
 
 // Two capabilities name the same typed object.
@@ -76,8 +72,7 @@ impl Estate {
 
     // What a row brings in enters.
     fn bring(&mut self, table: &[u32], row: u32) {
-        let end = row as usize * 8 + 8;
-        if table.len() < end {
+        if !has_row(table, row) {
             return;
         }
         let cap = table::cap_at(table, Row(row));

@@ -25,22 +25,21 @@ struct Session {
 }
 
 impl Session {
-    // One byte of the input: it ends a line, or belongs to one.
-    fn take<W: Write>(&mut self, byte: u8, out: &mut W) -> Result<()> {
-        if byte == b'\n' {
-            self.line.whole();
-            self.desk.obey(&self.line, out)?;
-            self.line = Line::new();
-        } else {
-            self.line.step(byte);
-        }
+    // The line is whole: what it asks for is done, and the next one begins.
+    fn end_line<W: Write>(&mut self, out: &mut W) -> Result<()> {
+        self.line.whole();
+        self.desk.obey(&self.line, out)?;
+        self.line = Line::new();
         Ok(())
     }
 
     // Bytes of the input. What is to be written for them is handed on.
     fn feed<W: Write>(&mut self, bytes: &[u8], out: &mut W) -> Result<()> {
         for &byte in bytes {
-            self.take(byte, out)?;
+            match byte {
+                b'\n' => self.end_line(out)?,
+                _ => self.line.step(byte),
+            }
         }
         out.flush()
     }

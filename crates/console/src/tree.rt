@@ -1,5 +1,5 @@
 // The derivation tree, drawn for a person: a line for each listed row, indented by its depth.
-ghost use Rattle.std.specs.Prelude.{◌≡◌, ◌++◌, OnOk};
+ghost use Rattle.std.specs.Prelude.{◌≡◌, ◌+◌, ◌*◌, ◌++◌, OnOk, length, nat_le};
 ghost use Rattle.std.specs.Io.KnownBytes.{Appends};
 ghost use Rattle.console.specs.Drawn.{badge_text, bytes_text, cap_text, details_text, drawn_row, indent, kind_text, named, next_row, rights_name, rights_text, tree_text};
 ghost use Rattle.console.specs.Writing.{ascii, decimal};
@@ -8,12 +8,18 @@ use crate::output::put_number;
 use model::{CNODE, Cap, ENDPOINT, NOTIFICATION, Row, TCB, UNTYPED};
 use std::io::{Result, Write};
 
+// The table has a row.
+pub fn has_row(table: &[u32], row: u32) -> bool
+    ensures { result ≡ nat_le (row * 8 + 8) (length table.now) }
+{
+    row as usize * 8 + 8 <= table.len()
+}
+
 // The row after a row in the list; a row out of the table is its own.
 pub fn next_row(table: &[u32], row: u32) -> u32
     ensures { result ≡ next_row table.now row }
 {
-    let end = row as usize * 8 + 8;
-    if end <= table.len() {
+    if has_row(table, row) {
         return table::word(table, Row(row), 5);
     }
     row
@@ -141,8 +147,7 @@ fn put_cap<W: Write>(out: &mut W, cap: Cap) -> Result<()>
 fn draw_row<W: Write>(out: &mut W, table: &[u32], row: u32) -> Result<()>
     ensures { OnOk result (Appends (W.contents out.old) (W.contents out.new) (drawn_row table.now row)) }
 {
-    let end = row as usize * 8 + 8;
-    if table.len() < end {
+    if !has_row(table, row) {
         return Ok(());
     }
     put_row(out, row, table::word(table, Row(row), 7))?;
