@@ -1,13 +1,12 @@
 -- The lines of an answer, of a row and of the tables, put together from what is written piece by piece.
-use Rattle.std.specs.Prelude.{◌≡◌, ◌≢◌, ℕ, zero, suc, ◌+◌, ◌-◌, ◌*◌, ◌/◌, ◌<◌, Bool, true, false, ◌&&◌, eqb, MatchBool, List, [], ◌∷◌, ◌++◌, length, get_or, take, drop}
+use Rattle.std.specs.Prelude.{◌≡◌, ◌≢◌, ℕ, zero, suc, ◌+◌, ◌-◌, ◌*◌, ◌<◌, Bool, true, false, ◌&&◌, eqb, MatchBool, List, [], ◌∷◌, ◌++◌, length, get_or, take, drop}
 use Rattle.std.specs.List.{AllWithin, HoldsAt}
 use mathlib.Core.Path.{refl, sym, ap, ◌∙◌}
 use native.Mathlib.Omega.{arith}
-use native.Mathlib.Numerals.{add-one}
 use lib.Seq.{take_all}
 use borrow.Author.Tests.{eq-eqb, ne_eqb}
 use Rattle.console.specs.Writing.{ascii, decimal, spaced}
-use Rattle.console.specs.Show.{answer_text, row_words, all_zero, row_text, rows_text, show_text}
+use Rattle.console.specs.Show.{answer_text, row_words, all_zero, row_text}
 
 -- ---- an answer
 
@@ -53,12 +52,3 @@ row_hidden t k z = rw (sym (z ∙ ap all_zero (part_is t k)))
 pub row_line : (t : List ℕ) (k : ℕ) → false ≡ all_zero (part t k) → ascii "row " ++ decimal k ++ spaced (part t k) ++ ascii "\n" ≡ row_text t k
 unfolding row_text
 row_line t k z = rw (part_is t k, sym (z ∙ ap all_zero (part_is t k)))
-
--- ---- the tables
-
-pub one_row_more : (t : List ℕ) (k : ℕ) → rows_text t k ++ row_text t k ≡ rows_text t (k + 1)
-one_row_more t k = rw add-one
-
-pub show_lines : (t c : List ℕ) (k : ℕ) → k ≡ length t / 8 → ascii "control" ++ spaced c ++ ascii "\n" ++ rows_text t k ++ ascii "end\n" ≡ show_text t c
-unfolding show_text
-show_lines t c k e = rw e

@@ -61,6 +61,7 @@ impl Desk {
     }
 
     // Boot's table: for an m in range a zero table of the length that fits, else what was lent.
+    #[tactic(auto, unfolding(crate::specs::Obeying::fitted))]
     fn fit(&mut self, m: u32)
         ensures { self.new ≡ fitted self.old m }
     {
@@ -70,6 +71,7 @@ impl Desk {
     }
 
     // `boot M R`
+    #[tactic(auto, unfolding(crate::specs::Obeying::on_boot, crate::specs::Obeying::boot_lent))]
     fn boot<W: Write>(&mut self, m: u32, radix: u32, out: &mut W) -> Result<()>
         ensures { Replies (on_boot self.old m radix) self.new (W.contents out.old) (W.contents out.new) result }
     {
@@ -81,6 +83,7 @@ impl Desk {
     }
 
     // `size N`: a table of N zero words, and control words 0.
+    #[tactic(auto, unfolding(crate::specs::Obeying::on_size))]
     fn size<W: Write>(&mut self, n: u32, out: &mut W) -> Result<()>
         ensures { Replies (on_size self.old n) self.new (W.contents out.old) (W.contents out.new) result }
     {
@@ -94,6 +97,7 @@ impl Desk {
     }
 
     // `row K A B C D E F G H`: sets row K, if it is wholly in the lent table.
+    #[tactic(auto, unfolding(crate::specs::Obeying::on_row))]
     fn row<W: Write>(&mut self, numbers: &[u32; 17], out: &mut W) -> Result<()>
         ensures { Replies (on_row self.old (slice_index numbers.now 0) (take 8 (drop 1 numbers.now))) self.new (W.contents out.old) (W.contents out.new) result }
     {
@@ -106,6 +110,7 @@ impl Desk {
     }
 
     // `ask CALLER W0 W1 ..`: a request of the words after the first of a line's numbers.
+    #[tactic(auto, unfolding(crate::specs::Obeying::on_ask_line, crate::specs::Obeying::on_ask))]
     fn ask<W: Write>(&mut self, line: &Line, out: &mut W) -> Result<()>
         ensures { Replies (on_ask_line self.old line.now.numbers line.now.count) self.new (W.contents out.old) (W.contents out.new) result }
     {
@@ -125,6 +130,7 @@ impl Desk {
     }
 
     // `show`
+    #[tactic(auto, unfolding(crate::specs::Obeying::on_show))]
     fn show<W: Write>(&self, out: &mut W) -> Result<()>
         ensures { OnOk result (Appends (W.contents out.old) (W.contents out.new) (on_show self.now).text) }
     {
@@ -133,6 +139,7 @@ impl Desk {
     }
 
     // `tree`, of tables that are well-formed.
+    #[tactic(auto, unfolding(crate::specs::Obeying::on_tree))]
     fn tree<W: Write>(&self, out: &mut W) -> Result<()>
         ensures { OnOk result (Appends (W.contents out.old) (W.contents out.new) (on_tree self.now).text) }
     {
@@ -153,6 +160,7 @@ impl Desk {
     }
 
     // A command is done, with a line's numbers.
+    #[tactic(auto, unfolding(crate::specs::Obeying::reply, crate::specs::Obeying::on_control, crate::specs::Obeying::on_show, crate::specs::Obeying::on_tree))]
     fn run<W: Write>(&mut self, command: Command, line: &Line, out: &mut W) -> Result<()>
         ensures { Obeys (is_told command) (reply command self.old line.now.numbers line.now.count) self.new (W.contents out.old) (W.contents out.new) result }
     {

@@ -123,6 +123,7 @@ impl<W: Write> Write for Pen<W> {
 }
 
 // A number in decimal.
+#[tactic(auto, using(crate::proofs::Writing::printed))]
 pub fn put_number<W: Write>(out: &mut W, n: u64) -> IoResult<()>
     ensures { OnOk result (Appends (W.contents out.old) (W.contents out.new) (decimal n)) }
 {

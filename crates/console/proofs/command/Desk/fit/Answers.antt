@@ -1,16 +1,7 @@
 -- A table for an m in range has at most 4096 rows.
 use Rattle.std.proofs.Common.{sym, ◌∙◌, arith}
 use Rattle.model.proofs.Words.Bounds.{rows_most}
-use Rattle.console.specs.Obeying.{fitted}
 use Rattle.console.proofs.command.Desk.fit.Goals as goal
 
 pub lend-requires : goal.lend-requires
 lend-requires c = omega (arith, c.table_words.ensures, rows_most c.args.m (sym c.m_in_range.ensures ∙ c.if-m_in_range.true))
-
-pub returns-then-m_in_range : goal.returns-then-m_in_range
-unfolding fitted
-returns-then-m_in_range c = c.lend.ensures ∙ rw (c.table_words.ensures, sym c.m_in_range.ensures ∙ c.if-m_in_range.true)
-
-pub returns-else-m_in_range : goal.returns-else-m_in_range
-unfolding fitted
-returns-else-m_in_range c = rw (sym c.m_in_range.ensures ∙ c.if-m_in_range.false)
