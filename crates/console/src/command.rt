@@ -76,6 +76,7 @@ impl Desk {
         ensures { Replies (on_boot self.old m radix) self.new (W.contents out.old) (W.contents out.new) result }
     {
         self.fit(m);
+        // a copy is lent: the check does not cover two fields lent behind one reference
         let mut control = self.control;
         let answer = zhvanirek_core::boot(&mut self.table[..self.lent], &mut control, m, radix);
         self.control = control;
@@ -118,6 +119,7 @@ impl Desk {
         if line.count < 1 || numbers.len() < line.count {
             return out.write_all(b"bad\n");
         }
+        // a copy is lent, as in `boot`
         let mut control = self.control;
         let answer = zhvanirek_core::request(
             &mut self.table[..self.lent],
