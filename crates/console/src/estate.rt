@@ -4,10 +4,11 @@ ghost use Rattle.std.specs.Prelude.{◌≤◌};
 
 use crate::output::put_number;
 use crate::tree::{has_row, next_row};
-use model::{CNODE, Cap, EMPTY, Row, UNTYPED};
+use model::{Cap, Kind, Row};
 use std::io::{Result, Write};
 use table::caps::same_object;
 use table::figures::MOST_ROWS;
+use table::{Column, cap_at, word};
 
 // The rows that have entered: marked, and in the first `count` places of the queue.
 #[derive(Drop)]
@@ -20,12 +21,12 @@ struct Estate {
 
 // A row of the table is deeper than a depth.
 fn is_deeper(table: &[u32], row: u32, depth: u32) -> bool {
-    has_row(table, row) && depth < table::word(table, Row(row), 7)
+    has_row(table, row) && depth < word(table, Row(row), Column::Depth)
 }
 
 // Two capabilities name the same typed object.
 fn same_typed(a: Cap, b: Cap) -> bool {
-    a.kind != UNTYPED && same_object(a, b)
+    !a.is(Kind::Untyped) && same_object(a, b)
 }
 
 impl Estate {
@@ -40,7 +41,7 @@ impl Estate {
 
     // The slots of a CNode enter.
     fn enter_slots(&mut self, cap: Cap) {
-        if cap.kind == CNODE && cap.size <= 12 {
+        if cap.is(Kind::CNode) && cap.size <= 12 {
             let first = (cap.address.0 >> 4) as usize;
             for i in 0..1usize << cap.size {
                 self.enter(first + i);
@@ -64,7 +65,7 @@ impl Estate {
     fn enter_naming(&mut self, table: &[u32], cap: Cap) {
         let rows = (table.len() / 8).min(MOST_ROWS);
         for k in 0..rows {
-            if same_typed(cap, table::cap_at(table, Row(k as u32))) {
+            if same_typed(cap, cap_at(table, Row(k as u32))) {
                 self.enter(k);
             }
         }
@@ -75,12 +76,12 @@ impl Estate {
         if !has_row(table, row) {
             return;
         }
-        let cap = table::cap_at(table, Row(row));
-        if cap.kind == EMPTY {
+        let cap = cap_at(table, Row(row));
+        if cap.is(Kind::Empty) {
             return;
         }
         self.enter_slots(cap);
-        self.enter_descendants(table, row, table::word(table, Row(row), 7));
+        self.enter_descendants(table, row, word(table, Row(row), Column::Depth));
         self.enter_naming(table, cap);
     }
 

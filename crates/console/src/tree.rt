@@ -5,8 +5,9 @@ ghost use Rattle.console.specs.Drawn.{badge_text, bytes_text, cap_text, details_
 ghost use Rattle.console.specs.Writing.{ascii, decimal};
 
 use crate::output::put_number;
-use model::{CNODE, Cap, ENDPOINT, NOTIFICATION, Row, TCB, UNTYPED};
+use model::{Cap, Kind, Row};
 use std::io::{Result, Write};
+use table::{Column, cap_at, word};
 
 // The table has a row.
 pub fn has_row(table: &[u32], row: u32) -> bool
@@ -20,7 +21,7 @@ pub fn next_row(table: &[u32], row: u32) -> u32
     ensures { result ≡ next_row table.now row }
 {
     if has_row(table, row) {
-        return table::word(table, Row(row), 5);
+        return word(table, Row(row), Column::Next);
     }
     row
 }
@@ -48,12 +49,12 @@ fn put_named<W: Write>(out: &mut W, name: &[u8], n: u32) -> Result<()>
 fn put_kind<W: Write>(out: &mut W, kind: u32) -> Result<()>
     ensures { OnOk result (Appends (W.contents out.old) (W.contents out.new) (kind_text kind)) }
 {
-    match kind {
-        UNTYPED => out.write_all(b"Untyped"),
-        TCB => out.write_all(b"TCB"),
-        ENDPOINT => out.write_all(b"Endpoint"),
-        NOTIFICATION => out.write_all(b"Notification"),
-        CNODE => out.write_all(b"CNode"),
+    match Kind::try_from(kind) {
+        Ok(Kind::Untyped) => out.write_all(b"Untyped"),
+        Ok(Kind::Tcb) => out.write_all(b"TCB"),
+        Ok(Kind::Endpoint) => out.write_all(b"Endpoint"),
+        Ok(Kind::Notification) => out.write_all(b"Notification"),
+        Ok(Kind::CNode) => out.write_all(b"CNode"),
         _ => out.write_all(b"Frame"),
     }
 }
@@ -107,14 +108,14 @@ fn put_badge<W: Write>(out: &mut W, cap: Cap) -> Result<()>
 fn put_details<W: Write>(out: &mut W, cap: Cap) -> Result<()>
     ensures { OnOk result (Appends (W.contents out.old) (W.contents out.new) (details_text cap)) }
 {
-    match cap.kind {
-        UNTYPED => {
+    match Kind::try_from(cap.kind) {
+        Ok(Kind::Untyped) => {
             put_bytes(out, cap.size)?;
             put_named(out, b" watermark ", cap.third)
         }
-        TCB => Ok(()),
-        ENDPOINT | NOTIFICATION => put_badge(out, cap),
-        CNODE => {
+        Ok(Kind::Tcb) => Ok(()),
+        Ok(Kind::Endpoint | Kind::Notification) => put_badge(out, cap),
+        Ok(Kind::CNode) => {
             put_named(out, b" radix ", cap.size)?;
             put_named(out, b" guard ", cap.third)?;
             put_named(out, b" size ", cap.fourth)
@@ -150,8 +151,8 @@ fn draw_row<W: Write>(out: &mut W, table: &[u32], row: u32) -> Result<()>
     if !has_row(table, row) {
         return Ok(());
     }
-    put_row(out, row, table::word(table, Row(row), 7))?;
-    put_cap(out, table::cap_at(table, Row(row)))
+    put_row(out, row, word(table, Row(row), Column::Depth))?;
+    put_cap(out, cap_at(table, Row(row)))
 }
 
 // A line for each of the listed rows, from the head on, and `end`.
