@@ -34,7 +34,9 @@ impl Model for Desk {
 
 impl Desk {
     // Nothing is lent.
-    pub fn new() -> Desk {
+    pub fn new() -> Desk
+        ensures { result.count ≡ 0 }
+    {
         Desk {
             table: [0; WORDS],
             control: [0; 4],

@@ -1,5 +1,5 @@
 // Text that is written: numbers in decimal, and a page on which bytes are collected before they are handed on.
-ghost use Rattle.std.specs.Prelude.{◌≡◌, ◌+◌, ◌≤◌, OnOk, length, slice_range};
+ghost use Rattle.std.specs.Prelude.{◌≡◌, ◌+◌, ◌≤◌, [], OnOk, length, slice_range};
 ghost use Rattle.std.specs.Io.KnownBytes.{Appends, Keeps};
 ghost use Rattle.console.specs.Writing.{decimal, spaced};
 
@@ -23,7 +23,10 @@ impl<W: Write> Pen<W> {
     ghost use Rattle.console.specs.Pen.{pen_contents, pen_text};
 
     // An empty page before a writer.
-    pub fn new(writer: W) -> Pen<W> {
+    pub fn new(writer: W) -> Pen<W>
+        ensures writer { result.writer ≡ writer }
+        ensures empty { pen_text result ≡ [] }
+    {
         Pen {
             writer,
             page: [0; PAGE],
