@@ -53,6 +53,7 @@ impl<W: Write> Pen<W> {
         requires { self.old.at + length text.now ≤ 65536 }
         ensures { Appends (pen_contents W.contents self.old) (pen_contents W.contents self.new) text.now }
     {
+        // a local, so that the loop stores bytes alone
         let mut at = self.at;
         for &byte in text {
             self.page[at] = byte;
@@ -84,6 +85,7 @@ fn write_out<W: Write>(writer: &mut W, page: &[u8], from: usize) -> (usize, Resu
     ensures all { OnOk result.1 (result.0 ≡ length page.now) }
     ensures bytes { Appends (W.contents writer.old) (W.contents writer.new) (slice_range page.now from result.0) }
 {
+    // not a `for`: a write takes as many bytes as it likes
     let mut at = from;
     while at < page.len() {
         match writer.write(&page[at..]) {
