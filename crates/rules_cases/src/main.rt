@@ -63,7 +63,11 @@ fn with_row(k: u32, kind: u32, address: u32, size: u32, fourth: u32, depth: u32)
 {
     let mut t = after_case_1();
     t[37] = k;
-    put(&mut t, k as usize, [kind, address, size, 0, fourth, 2, 4, depth]);
+    put(
+        &mut t,
+        k as usize,
+        [kind, address, size, 0, fourth, 2, 4, depth],
+    );
     t[22] = k;
     verdict(t, [10, 4, 0, 6])
 }
@@ -96,9 +100,17 @@ fn sound(rt: &impl Print) -> io::Result<()> {
     line(rt, "a guard of 18 bits", with_word(0, 3, 262143))?;
     line(rt, "a boot radix of 5", with_control([10, 5, 0, 5]))?;
     line(rt, "siblings that name one CNode", with_word(4, 1, 256))?;
-    line(rt, "siblings that name one CNode, another between", with_row(5, 5, 256, 2, 0, 1))?;
+    line(
+        rt,
+        "siblings that name one CNode, another between",
+        with_row(5, 5, 256, 2, 0, 1),
+    )?;
     line(rt, "a copy of a CNode", with_row(5, 5, 320, 2, 0, 2))?;
-    line(rt, "two rows of depth 0 for one CNode", with_row(5, 5, 0, 4, 28, 0))?;
+    line(
+        rt,
+        "two rows of depth 0 for one CNode",
+        with_row(5, 5, 0, 4, 28, 0),
+    )?;
     line(rt, "an Untyped in an Untyped", nested(2))?;
     line(rt, "an Endpoint in the boot CNode", endpoint_in(5))?;
     line(rt, "an Endpoint in the CNode of row 4", endpoint_in(20))
@@ -147,14 +159,42 @@ fn list(rt: &impl Print) -> io::Result<()> {
 }
 
 fn rows_against_rows(rt: &impl Print) -> io::Result<()> {
-    line(rt, "a child that ends past the watermark", with_word(1, 3, 112))?;
+    line(
+        rt,
+        "a child that ends past the watermark",
+        with_word(1, 3, 112),
+    )?;
     line(rt, "a child before its Untyped", with_word(4, 1, 192))?;
-    line(rt, "a child of a CNode for another CNode", with_word(4, 7, 2))?;
-    line(rt, "an Untyped over a sibling", with_row(5, 1, 256, 6, 0, 1))?;
-    line(rt, "an Untyped inside a sibling", with_row(5, 1, 272, 4, 0, 1))?;
-    line(rt, "two rows of depth 0 for one Untyped", with_row(5, 1, 512, 9, 0, 0))?;
-    line(rt, "a CNode over the boot CNode", with_row(5, 5, 0, 3, 28, 0))?;
-    line(rt, "a sibling of the Untyped that holds its object", nested(1))?;
+    line(
+        rt,
+        "a child of a CNode for another CNode",
+        with_word(4, 7, 2),
+    )?;
+    line(
+        rt,
+        "an Untyped over a sibling",
+        with_row(5, 1, 256, 6, 0, 1),
+    )?;
+    line(
+        rt,
+        "an Untyped inside a sibling",
+        with_row(5, 1, 272, 4, 0, 1),
+    )?;
+    line(
+        rt,
+        "two rows of depth 0 for one Untyped",
+        with_row(5, 1, 512, 9, 0, 0),
+    )?;
+    line(
+        rt,
+        "a CNode over the boot CNode",
+        with_row(5, 5, 0, 3, 28, 0),
+    )?;
+    line(
+        rt,
+        "a sibling of the Untyped that holds its object",
+        nested(1),
+    )?;
     line(rt, "a row in an Untyped", endpoint_in(40))
 }
 
