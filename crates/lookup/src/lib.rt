@@ -26,70 +26,12 @@ pub fn field(address: u32, left: u32, n: u32) -> u32
 }
 
 // With `left` bits left, a CNode's guard is longer than they are or differs from the next of them.
+#[tactic(auto, unfolding(model::specs::Lookup::guard_missed))]
 fn guard_missed(node: Cap, address: u32, left: u32) -> bool
     requires { left ≤ 32 }
     ensures { result ≡ spec.guard_missed node address left }
 {
     left < node.fourth || field(address, left, node.fourth) != node.third
-}
-
-// The slot that an address names, from a root. Only the low `depth` bits of the address count.
-pub fn lookup(t: &[u32], root: Cap, address: u32, depth: u32) -> Result<Row, Miss>
-    requires ready { Ready t.now }
-    requires usable { (is_cnode root ≡ true → Usable t.now root) }
-    ensures { result ≡ spec.lookup edition32 (tables.cap_of t.now) root address depth }
-{
-    if !root.is(Kind::CNode) {
-        return Err(Miss::Failed(Failure::InvalidRoot));
-    }
-    if depth < 1 || 32 < depth {
-        return Err(Miss::DepthOutOfRange);
-    }
-    let mut node = root;
-    let mut left = depth;
-    loop {
-        let missed = guard_missed(node, address, left);
-        let taken = node.fourth + node.size;
-        if missed {
-            return Err(Miss::Failed(Failure::GuardMismatch {
-                bits: left,
-                guard: node.third,
-                size: node.fourth,
-            }));
-        }
-        if left < taken {
-            return Err(Miss::Failed(Failure::DepthMismatch {
-                bits: left,
-                resolved: taken,
-            }));
-        }
-        let first = row_of(node.address);
-        let unguarded = left - node.fourth;
-        let row = first.0 + field(address, unguarded, node.size);
-        let slot = Row(row);
-        if left == taken {
-            return Ok(slot);
-        }
-        let rest = left - taken;
-        let next = cap_at(t, slot);
-        if !next.is(Kind::CNode) {
-            return Err(Miss::Failed(Failure::DepthMismatch {
-                bits: rest,
-                resolved: 0,
-            }));
-        }
-        node = next;
-        left = rest;
-    }
-}
-
-// The same, from the capability in a row.
-pub fn lookup_from(t: &[u32], row: Row, address: u32, depth: u32) -> Result<Row, Miss>
-    requires ready { Ready t.now }
-    requires inside { row.0 * 8 + 8 ≤ length t.now }
-    ensures { result ≡ spec.lookup edition32 (tables.cap_of t.now) (tables.cap_of t.now row.0) address depth }
-{
-    lookup(t, cap_at(t, row), address, depth)
 }
 
 // What a request is told where a place is missed.
@@ -106,15 +48,6 @@ fn missed_place(source: bool, miss: Miss) -> Refusal
     }
 }
 
-// The row that a place names.
-pub fn find(t: &[u32], p: Place) -> Result<Row, Refusal>
-    requires ready { Ready t.now }
-    requires usable { (is_cnode p.root ≡ true → Usable t.now p.root) }
-    ensures { Finds t.now (slot_of edition32 p.source (spec.lookup edition32 (tables.cap_of t.now) p.root p.index p.depth)) result }
-{
-    lookup(t, p.root, p.index, p.depth).map_err(|miss| missed_place(p.source, miss))
-}
-
 // What a request is told where the address in message word `at` is missed.
 #[tactic(auto, unfolding(model::specs::Request::or_fault))]
 fn missed_word(at: u32, miss: Miss) -> Refusal
@@ -127,11 +60,86 @@ fn missed_word(at: u32, miss: Miss) -> Refusal
     Refusal::CapFault { word: at, failure }
 }
 
-// The row that the address in message word `at` names, from a root and at full depth.
-pub fn named(t: &[u32], root: Cap, address: u32, at: u32) -> Result<Row, Refusal>
-    requires ready { Ready t.now }
-    requires usable { (is_cnode root ≡ true → Usable t.now root) }
-    ensures { Finds t.now (or_fault at (spec.lookup edition32 (tables.cap_of t.now) root address 32)) result }
-{
-    lookup(t, root, address, 32).map_err(|miss| missed_word(at, miss))
+// The slot table, of which every CNode can be walked through.
+#[derive(Clone, Copy)]
+pub struct SlotTable<'a> {
+    pub words: &'a [u32],
+    ghost ready: { Ready words.now },
+}
+
+impl SlotTable<'_> {
+    // The slot that an address names, from a root. Only the low `depth` bits of the address count.
+    pub fn lookup(&self, root: Cap, address: u32, depth: u32) -> Result<Row, Miss>
+        requires { is_cnode root ≡ true → Usable self.now.words.now root }
+        ensures { result ≡ spec.lookup edition32 (tables.cap_of self.now.words.now) root address depth }
+    {
+        if !root.is(Kind::CNode) {
+            return Err(Miss::Failed(Failure::InvalidRoot));
+        }
+        if depth < 1 || 32 < depth {
+            return Err(Miss::DepthOutOfRange);
+        }
+        let mut node = root;
+        let mut left = depth;
+        loop {
+            let missed = guard_missed(node, address, left);
+            let taken = node.fourth + node.size;
+            if missed {
+                return Err(Miss::Failed(Failure::GuardMismatch {
+                    bits: left,
+                    guard: node.third,
+                    size: node.fourth,
+                }));
+            }
+            if left < taken {
+                return Err(Miss::Failed(Failure::DepthMismatch {
+                    bits: left,
+                    resolved: taken,
+                }));
+            }
+            let first = row_of(node.address);
+            let unguarded = left - node.fourth;
+            let row = first.0 + field(address, unguarded, node.size);
+            let slot = Row(row);
+            if left == taken {
+                return Ok(slot);
+            }
+            let rest = left - taken;
+            let next = cap_at(self.words, slot);
+            if !next.is(Kind::CNode) {
+                return Err(Miss::Failed(Failure::DepthMismatch {
+                    bits: rest,
+                    resolved: 0,
+                }));
+            }
+            node = next;
+            left = rest;
+        }
+    }
+
+    // The same, from the capability in a row.
+    pub fn lookup_from(&self, row: Row, address: u32, depth: u32) -> Result<Row, Miss>
+        requires { row.0 * 8 + 8 ≤ length self.now.words.now }
+        ensures { result ≡ spec.lookup edition32 (tables.cap_of self.now.words.now) (tables.cap_of self.now.words.now row.0) address depth }
+    {
+        self.lookup(cap_at(self.words, row), address, depth)
+    }
+
+    // The row that a place names.
+    pub fn find(&self, p: Place) -> Result<Row, Refusal>
+        requires { is_cnode p.root ≡ true → Usable self.now.words.now p.root }
+        ensures { Finds self.now.words.now (slot_of edition32 p.source (spec.lookup edition32 (tables.cap_of self.now.words.now) p.root p.index p.depth)) result }
+    {
+        self.lookup(p.root, p.index, p.depth)
+            .map_err(|miss| missed_place(p.source, miss))
+    }
+
+    // The row that the address in message word `at` names, from a root and at full depth.
+    pub fn named(&self, root: Cap, address: u32, at: u32) -> Result<Row, Refusal>
+        requires { is_cnode root ≡ true → Usable self.now.words.now root }
+        ensures { Finds self.now.words.now (or_fault at (spec.lookup edition32 (tables.cap_of self.now.words.now) root address 32)) result }
+    {
+        self.lookup(root, address, 32)
+            .map_err(|miss| missed_word(at, miss))
+    }
 }

@@ -4,10 +4,10 @@ use Rattle.model.specs.Edition.{edition32}
 use Rattle.model.specs.Tables.{cap_of}
 use Rattle.model.specs.Lookup.{lookup}
 use Rattle.lookup.proofs.Levels.{Going}
-use Rattle.lookup.proofs.lookup.Given as goal
+use Rattle.lookup.proofs.SlotTable.lookup.Given as goal
 
 abbrev pub invariant-loop-node : goal.invariant-loop-node
-invariant-loop-node l = Going l.t l.address (lookup edition32 (cap_of l.t) l.initial.node l.address l.initial.left) l.node l.left
+invariant-loop-node l = Going l.self.words.now l.address (lookup edition32 (cap_of l.self.words.now) l.initial.node l.address l.initial.left) l.node l.left
 
 abbrev pub decreases-loop-node : goal.decreases-loop-node
 decreases-loop-node l = l.left

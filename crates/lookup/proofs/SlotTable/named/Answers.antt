@@ -3,9 +3,9 @@ use mathlib.Core.Path.{refl}
 use Rattle.std.proofs.Common.{rules}
 use Rattle.model.specs.Request.{or_fault}
 use Rattle.lookup.proofs.Finding.{finds}
-use Rattle.lookup.proofs.named.Goals as goal
+use Rattle.lookup.proofs.SlotTable.named.Goals as goal
 
 pub returns : goal.returns
 unfolding or_fault
 returns c =
-    finds _ _ _ _ c.requires.ready c.requires.usable (or_fault c.args.at) (λ k. refl) _ (λ e r told. search rules) _ c.lookup.ensures _ c.map_err.ensures.cases
+    finds _ _ _ _ c.args.self.now.ready c.requires (or_fault c.args.at) (λ k. refl) _ (λ e r told. search rules) _ c.lookup.ensures _ c.map_err.ensures.cases

@@ -16,8 +16,8 @@ use Rattle.model.specs.Lookup.{field, taken, picked, lookup}
 use Rattle.model.proofs.Booleans.{parts_within}
 use Rattle.lookup.proofs.Levels.{picked_inside, guard_missed_lem, too_deep, done, no_node, node, ends, goes_on}
 use Rattle.lookup.specs.Ready.{Usable}
-use Rattle.lookup.proofs.lookup.Goals as goal
-use Rattle.lookup.proofs.lookup.Goals.{then-depth-lt1-via-else-depth-lt1+then-depth-gt32, then-depth-lt1-via-then-depth-lt1}
+use Rattle.lookup.proofs.SlotTable.lookup.Goals as goal
+use Rattle.lookup.proofs.SlotTable.lookup.Goals.{then-depth-lt1-via-else-depth-lt1+then-depth-gt32, then-depth-lt1-via-then-depth-lt1}
 
 -- ---- before the loop
 
@@ -41,7 +41,7 @@ loop-node-init c =
     let least = c.if-depth-lt1.false in
     let most = c.if-depth-gt32.false in
     record {
-      usable = c.requires.usable is;
+      usable = c.requires is;
       some = least;
       most = most;
       levels = 32;
@@ -70,7 +70,7 @@ module _ (node : Cap) (address left first slot : ℕ) (begins : first ≡ node.a
   inside t usable = rw there (picked_inside t node address left usable)
 
 pub overflow_add-row : goal.overflow_add-row
-overflow_add-row c = omega (arith, inside _ _ _ _ _ c.row_of-first.ensures c.field.ensures _ c.loop-node.invariant.usable, c.requires.ready.small)
+overflow_add-row c = omega (arith, inside _ _ _ _ _ c.row_of-first.ensures c.field.ensures _ c.loop-node.invariant.usable, c.args.self.now.ready.small)
 
 pub returns-then-left-taken-2 : goal.returns-then-left-taken-2
 unfolding taken
@@ -101,10 +101,10 @@ unfolding taken
 loop-node-preserved c =
     let deeper = more c.loop-node.node _ c.if-left-taken.false c.if-left-taken-2.false in
     let next = c.cap_at-next.ensures in
-    let is : is_cnode (cap_of c.args.t.now (c.row_of-first.result.0 + c.field.result)) ≡ true = rw next at (sym c.is-in-loop-node.ensures ∙ c.if-not-is-2.false) in
+    let is : is_cnode (cap_of c.args.self.now.words.now (c.row_of-first.result.0 + c.field.result)) ≡ true = rw next at (sym c.is-in-loop-node.ensures ∙ c.if-not-is-2.false) in
     rw next
     (goes_on c.loop-node.invariant
     (node _ _ _ _ _ (sym c.guard_missed-missed.ensures ∙ c.if-missed.false) _ (there _ _ _ _ _ c.row_of-first.ensures c.field.ensures) deeper is)
-    (c.requires.ready.nodes (c.row_of-first.result.0 + c.field.result) is)
+    (c.args.self.now.ready.nodes (c.row_of-first.result.0 + c.field.result) is)
     (omega (arith, deeper))
     (omega (arith, deeper, c.loop-node.invariant.usable.wide)))
