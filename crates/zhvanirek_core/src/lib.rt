@@ -11,6 +11,7 @@ ghost use Rattle.model.specs.Request as spec;
 ghost use Rattle.model.specs.Tables.{lent};
 
 use crate::message::Request;
+use lookup::SlotTable;
 use model::{Answer, Failure, Refusal};
 use table::figures;
 
@@ -47,7 +48,7 @@ pub fn request(table: &mut [u32], control: &mut [u32; 4], caller: u32, message: 
         return Err(Refusal::BadTables);
     }
     let request = Request { caller, message };
-    let service = request.service(table)?;
+    let service = request.service(&SlotTable { words: table })?;
     performing::perform(table, control, &request, service)
 }
 

@@ -1,12 +1,11 @@
 // A request as it comes: who calls, and the words of the message.
 ghost use Rattle.std.specs.Prelude.{◌≡◌, ◌+◌, ◌*◌, ◌≤◌, length, slice_index};
 ghost use Rattle.lookup.specs.Finds.{Finds};
-ghost use Rattle.lookup.specs.Ready.{Ready};
 ghost use Rattle.model.specs.Request as spec;
 ghost use Rattle.model.specs.Tables as tables;
 ghost use Rattle.zhvanirek_core.specs.Asking as asking;
 
-use lookup::{find, named};
+use lookup::SlotTable;
 use model::{Address, Cap, Kind, Operation, Place, Refusal, Retyping, Row};
 use table::cap_at;
 
@@ -84,25 +83,23 @@ impl Request<'_> {
 
     // The row that message word `at` names, from the caller's.
     #[tactic(auto, unfolding(crate::specs::Asking::row_named_by))]
-    pub fn row_named(&self, table: &[u32], at: u32) -> Result<Row, Refusal>
-        requires { Ready table.now }
-        ensures { Finds table.now (asking.row_named_by (tables.cap_of table.now) self.now.caller self.now.message.now at) result }
+    pub fn row_named(&self, slots: &SlotTable<'_>, at: u32) -> Result<Row, Refusal>
+        ensures { Finds slots.now.words.now (asking.row_named_by (tables.cap_of slots.now.words.now) self.now.caller self.now.message.now at) result }
     {
-        let root = cap_or_nothing(table, self.caller);
-        named(table, root, self.word(at as usize), at)
+        let root = cap_or_nothing(slots.words, self.caller);
+        slots.named(root, self.word(at as usize), at)
     }
 
     // The service that the message asks, once it may be asked.
     #[tactic(auto, unfolding(crate::specs::Asking::asked), using(model::proofs::Steps::steps))]
-    pub fn service(&self, table: &[u32]) -> Result<Row, Refusal>
-        requires { Ready table.now }
-        ensures { Finds table.now (asking.asked (tables.cap_of table.now) self.now.caller self.now.message.now) result }
+    pub fn service(&self, slots: &SlotTable<'_>) -> Result<Row, Refusal>
+        ensures { Finds slots.now.words.now (asking.asked (tables.cap_of slots.now.words.now) self.now.caller self.now.message.now) result }
     {
         if self.message.len() < 2 {
             return Err(Refusal::TruncatedMessage);
         }
-        let row = self.row_named(table, 1)?;
-        let service = cap_at(table, row);
+        let row = self.row_named(slots, 1)?;
+        let service = cap_at(slots.words, row);
         if service.is(Kind::Empty) {
             return Err(Refusal::InvalidCapability);
         }
@@ -133,12 +130,11 @@ impl Request<'_> {
 
     // The row that Delete and Revoke begin from, which words 2 and 3 name.
     #[tactic(auto, unfolding(crate::specs::Asking::target))]
-    pub fn target(&self, table: &[u32], service: Row) -> Result<Row, Refusal>
-        requires ready { Ready table.now }
-        requires inside { service.0 * 8 + 8 ≤ length table.now }
-        ensures { Finds table.now (asking.target (tables.cap_of table.now) self.now.message.now service.0) result }
+    pub fn target(&self, slots: &SlotTable<'_>, service: Row) -> Result<Row, Refusal>
+        requires { service.0 * 8 + 8 ≤ length slots.now.words.now }
+        ensures { Finds slots.now.words.now (asking.target (tables.cap_of slots.now.words.now) self.now.message.now service.0) result }
     {
-        find(table, self.place(table, service, 2, false))
+        slots.find(self.place(slots.words, service, 2, false))
     }
 
     // What the message asks of Retype, with its root in a row.

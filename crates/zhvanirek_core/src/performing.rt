@@ -9,6 +9,7 @@ ghost use Rattle.model.specs.declared.Operation.TheVariants as operations;
 ghost use Rattle.zhvanirek_core.specs.Serving as serving;
 
 use crate::message::Request;
+use lookup::SlotTable;
 use model::{Answer, Change, Operation, Refusal, Row};
 
 // Copy, Mint, Move and Mutate: the source's root, then what is done.
@@ -22,7 +23,7 @@ fn transferring(
     requires { serving.Served (lent table.old control.old) service.0 }
     ensures { record { answer = result; tables = lent table.new control.new } ≡ spec.carried_out edition32 (lent table.old control.old) (λ f. serving.two_places (serving.transfer how) f request.now.caller request.now.message.now service.0) }
 {
-    let root = request.row_named(table, 4)?;
+    let root = request.row_named(&SlotTable { words: table }, 4)?;
     let dest = request.place(table, service, 2, false);
     let source = request.place(table, root, 5, true);
     match how {
@@ -45,8 +46,8 @@ fn rotating(
     requires { serving.Served (lent table.old control.old) service.0 }
     ensures { record { answer = result; tables = lent table.new control.new } ≡ spec.carried_out edition32 (lent table.old control.old) (λ f. spec.perform edition32 f request.now.caller request.now.message.now service.0 operations.Rotate) }
 {
-    let pivot_root = request.row_named(table, 5)?;
-    let source_root = request.row_named(table, 9)?;
+    let pivot_root = request.row_named(&SlotTable { words: table }, 5)?;
+    let source_root = request.row_named(&SlotTable { words: table }, 9)?;
     let dest = request.place(table, service, 2, false);
     let pivot = request.place(table, pivot_root, 6, false);
     let source = request.place(table, source_root, 10, true);
@@ -66,7 +67,7 @@ fn retyping(
     requires untyped { cap.is_untyped (tables.cap_of table.old service.0) ≡ true }
     ensures { record { answer = result; tables = lent table.new control.new } ≡ spec.carried_out edition32 (lent table.old control.old) (λ f. spec.perform edition32 f request.now.caller request.now.message.now service.0 operations.Retype) }
 {
-    let root = request.row_named(table, 4)?;
+    let root = request.row_named(&SlotTable { words: table }, 4)?;
     let asked = request.retyping(table, root);
     retype::retype(table, control, service, asked)
 }
@@ -104,11 +105,11 @@ pub fn perform(
             transferring(table, control, request, service, Change::Mutated { datum })
         }
         Operation::Delete => {
-            let row = request.target(table, service)?;
+            let row = request.target(&SlotTable { words: table }, service)?;
             Ok(removal::delete(table, control, row))
         }
         Operation::Revoke => {
-            let row = request.target(table, service)?;
+            let row = request.target(&SlotTable { words: table }, service)?;
             Ok(removal::revoke(table, control, row))
         }
         Operation::Rotate => rotating(table, control, request, service),

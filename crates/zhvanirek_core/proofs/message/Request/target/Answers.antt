@@ -3,9 +3,9 @@ use Rattle.model.specs.Request.{place}
 use Rattle.zhvanirek_core.specs.Asking.{target}
 use Rattle.zhvanirek_core.proofs.message.Request.target.Goals as goal
 
-pub find-requires-clause-usable : goal.find-requires-clause-usable
+pub find-requires : goal.find-requires
 unfolding place
-find-requires-clause-usable c = rw c.place.ensures (λ node. c.requires.ready.nodes _ node)
+find-requires c = rw c.place.ensures (λ node. c.args.slots.now.ready.nodes _ node)
 
 pub returns : goal.returns
 unfolding target place
