@@ -10,7 +10,7 @@ use crate::following::row_count;
 use model::{Kind, NONE, Row};
 use table::caps::same_object;
 use table::stores::{put, unlink};
-use table::{Column, cap_at, word};
+use table::{COUNT, Column, HEAD, cap_at, word};
 
 // A row of the table, another than the given one, names what that one names.
 #[tactic(auto, unfolding(crate::specs::Removing::also_names))]
@@ -44,6 +44,7 @@ pub fn goes_alone(t: &[u32], row: Row) -> bool
 }
 
 // What is below a row goes one up: the rows after it that are deeper.
+// The walk is not shared with mark_descendants, which only reads the table: this one writes the table that it walks.
 #[tactic(auto, using(crate::proofs::Descent::row_in))]
 fn raise_descendants(t: &mut [u32], control: &[u32; 4], row: Row)
     requires formed { well_formed edition32 (lent t.old control.now) ≡ true }
@@ -79,6 +80,6 @@ pub fn cut(t: &mut [u32], control: &mut [u32; 4], row: Row)
     let [_, _, head, count] = *control;
     raise_descendants(t, control, row);
     unlink(t, row, last, next);
-    control[2] = if last == NONE { next } else { head };
-    control[3] = count - 1;
+    control[HEAD] = if last == NONE { next } else { head };
+    control[COUNT] = count - 1;
 }

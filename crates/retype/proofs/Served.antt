@@ -17,7 +17,7 @@ use Rattle.model.specs.Request.{Outcome, carried_out}
 use Rattle.model.proofs.Words.WellFormed.{roomy32}
 use Rattle.model.proofs.Words.Caps.{caps_read}
 use Rattle.model.proofs.Outcome.{comes_refused, comes_same}
-use Rattle.lookup.specs.Ready.{Ready, Usable}
+use Rattle.lookup.specs.Ready.{Usable}
 use Rattle.lookup.proofs.WellFormed.{ready}
 use Rattle.retype.specs.Allotting.{Retypable, Vacant, allotting}
 use Rattle.retype.specs.Window.{Known, sized, window_in, taken_by, vacant_in, first_slot}
@@ -33,9 +33,6 @@ sized_known object size e =
     record { listed = ltb-false 5 object a.0; small = ltb-false 30 size b.0 }
 
 module _ (t : Tables) (k : ℕ) (q : Retyping) (asked : Retypable t k q) where
-  pub tables_ready : Ready t.table
-  tables_ready = ready t asked.formed
-
   pub first_vacant : (first : ℕ) → ◌≡◌ {A = Check ℕ} (Ok first) (first_slot edition32 (cap_of t.table) q) → Vacant t k q first
   unfolding first_slot vacant_in
   first_vacant first e =
@@ -45,7 +42,7 @@ module _ (t : Tables) (k : ℕ) (q : Retyping) (asked : Retypable t k q) where
       let (free, d) = through _ _ _ first c in
       let is : j ≡ first = cc in
       let w : window_in edition32 n q ≡ Ok first = window ∙ ap Ok is in
-      let usable : (is_cnode n ≡ true → Usable t.table n) = node_usable t.table q.into n tables_ready asked.usable (sym node) in
+      let usable : (is_cnode n ≡ true → Usable t.table n) = node_usable t.table q.into n (ready t asked.formed) asked.usable (sym node) in
       record {
         formed = asked.formed;
         untyped = asked.untyped;

@@ -8,7 +8,7 @@ use crate::object::new_cap;
 use model::{Address, Retyping, Row, exponent};
 use table::size::pow2;
 use table::stores::{link, put};
-use table::{Column, word};
+use table::{COUNT, Column, word};
 
 // The window's new capabilities, in rows from `first`, for objects in a row from `address`, listed after one row and before `next`.
 #[tactic(auto, using(crate::proofs::Sizes::exponent_small))]
@@ -48,5 +48,5 @@ pub fn lay_out(t: &mut [u32], control: &mut [u32; 4], row: Row, q: Retyping, fir
     let end = u64::from(at) + (u64::from(q.window) << e);
     put(t, row, Column::Third, end as u32);
     link_new(t, row, next, depth, q, first, Address(base));
-    control[3] += q.window;
+    control[COUNT] += q.window;
 }

@@ -14,6 +14,7 @@ ghost use Rattle.model.specs.Tables.{lent};
 ghost use Rattle.retype.specs.Allotting.{Retypable, Vacant, allotting};
 
 use laying::lay_out;
+use lookup::SlotTable;
 use memory::{memory_for, start};
 use model::{Answer, Retyping, Row};
 use place::first_slot;
@@ -36,6 +37,7 @@ pub fn retype(t: &mut [u32], control: &mut [u32; 4], row: Row, q: Retyping) -> A
     requires { Retypable (lent t.old control.old) row.0 q }
     ensures { record { answer = result; tables = lent t.new control.new } ≡ carried_out edition32 (lent t.old control.old) (λ f. spec.retype edition32 f row.0 q) }
 {
-    let first = first_slot(t, q)?;
+    let slots = SlotTable { words: t };
+    let first = first_slot(&slots, q)?;
     allot(t, control, row, q, first)
 }

@@ -4,36 +4,34 @@ ghost use Rattle.model.specs.Edition.{edition32, most_rows};
 ghost use Rattle.model.specs.Cap as cap;
 ghost use Rattle.model.specs.Tables as tables;
 ghost use Rattle.lookup.specs.Finds.{numbered};
-ghost use Rattle.lookup.specs.Ready.{Ready, Usable};
+ghost use Rattle.lookup.specs.Ready.{Usable};
 ghost use Rattle.retype.specs.Window as tests;
 
 use crate::object::sized;
-use lookup::find;
+use lookup::SlotTable;
 use model::{Cap, Failure, Kind, Place, Refusal, Retyping, Row};
 use table::size::slots_of;
 use table::{cap_at, row_of};
 
 // What a place names, at depth 0 its root itself.
 #[tactic(auto, unfolding(crate::specs::Window::node_by), using(model::proofs::Steps::steps))]
-pub fn node(t: &[u32], p: Place) -> Result<Cap, Refusal>
-    requires ready { Ready t.now }
-    requires usable { (cap.is_cnode p.root ≡ true → Usable t.now p.root) }
-    ensures { result ≡ tests.node_by edition32 (tables.cap_of t.now) p }
+pub fn node(slots: &SlotTable<'_>, p: Place) -> Result<Cap, Refusal>
+    requires { cap.is_cnode p.root ≡ true → Usable slots.now.words.now p.root }
+    ensures { result ≡ tests.node_by edition32 (tables.cap_of slots.now.words.now) p }
 {
     if p.depth == 0 {
         return Ok(p.root);
     }
-    let row = find(t, p)?;
-    Ok(cap_at(t, row))
+    let row = slots.find(p)?;
+    Ok(cap_at(slots.words, row))
 }
 
 // One of the n rows from the first is occupied.
-pub fn any_taken(t: &[u32], first: Row, n: u32) -> bool
-    requires ready { Ready t.now }
-    requires inside { (first.0 + n) * 8 ≤ length t.now }
-    ensures { result ≡ tests.taken_by (tables.cap_of t.now) first.0 n }
+pub fn any_taken(slots: &SlotTable<'_>, first: Row, n: u32) -> bool
+    requires { (first.0 + n) * 8 ≤ length slots.now.words.now }
+    ensures { result ≡ tests.taken_by (tables.cap_of slots.now.words.now) first.0 n }
 {
-    (first.0..first.0 + n).any(|k| !cap_at(t, Row(k)).is(Kind::Empty))
+    (first.0..first.0 + n).any(|k| !cap_at(slots.words, Row(k)).is(Kind::Empty))
 }
 
 // The first slot of the window in a node.
@@ -73,13 +71,12 @@ pub fn window(n: Cap, q: Retyping) -> Result<Row, Refusal>
 
 // The first slot of the window in a node, if all its slots are empty.
 #[tactic(auto, unfolding(crate::specs::Window::vacant_in), using(model::proofs::Steps::steps))]
-pub fn vacant_window(t: &[u32], n: Cap, q: Retyping) -> Result<Row, Refusal>
-    requires ready { Ready t.now }
-    requires usable { (cap.is_cnode n ≡ true → Usable t.now n) }
-    ensures { numbered result ≡ tests.vacant_in edition32 (tables.cap_of t.now) n q }
+pub fn vacant_window(slots: &SlotTable<'_>, n: Cap, q: Retyping) -> Result<Row, Refusal>
+    requires { cap.is_cnode n ≡ true → Usable slots.now.words.now n }
+    ensures { numbered result ≡ tests.vacant_in edition32 (tables.cap_of slots.now.words.now) n q }
 {
     let first = window(n, q)?;
-    if any_taken(t, first, q.window) {
+    if any_taken(slots, first, q.window) {
         return Err(Refusal::DeleteFirst);
     }
     Ok(first)
@@ -87,12 +84,11 @@ pub fn vacant_window(t: &[u32], n: Cap, q: Retyping) -> Result<Row, Refusal>
 
 // All tests but that of the memory, and the first slot of the window.
 #[tactic(auto, unfolding(crate::specs::Window::first_slot), using(model::proofs::Steps::steps))]
-pub fn first_slot(t: &[u32], q: Retyping) -> Result<Row, Refusal>
-    requires ready { Ready t.now }
-    requires usable { (cap.is_cnode q.into.root ≡ true → Usable t.now q.into.root) }
-    ensures { numbered result ≡ tests.first_slot edition32 (tables.cap_of t.now) q }
+pub fn first_slot(slots: &SlotTable<'_>, q: Retyping) -> Result<Row, Refusal>
+    requires { cap.is_cnode q.into.root ≡ true → Usable slots.now.words.now q.into.root }
+    ensures { numbered result ≡ tests.first_slot edition32 (tables.cap_of slots.now.words.now) q }
 {
     sized(q.object, q.size)?;
-    let n = node(t, q.into)?;
-    vacant_window(t, n, q)
+    let n = node(slots, q.into)?;
+    vacant_window(slots, n, q)
 }

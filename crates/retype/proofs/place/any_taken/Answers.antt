@@ -21,7 +21,7 @@ taken_among caps k (suc n) = ap (λ (b : Bool). not (is_empty (caps k)) || b) (t
 
 pub returns : goal.returns
 returns c =
-    any_from_yields_List (λ k. not (is_empty (cap_of c.args.t.now k))) _ _ c.any.result c.any.ensures.ran
+    any_from_yields_List (λ k. not (is_empty (cap_of c.args.slots.now.words.now k))) _ _ c.any.result c.any.ensures.ran
     (YieldsList-from_range _ (c.args.first.0 + c.args.n) c.args.n (cc) (omega arith))
     (λ x b q k. search rules)
     ∙ taken_among _ _ _
