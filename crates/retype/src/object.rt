@@ -24,7 +24,7 @@ pub fn size_barred(object: u32, size: u32) -> bool
     ensures { result ≡ spec.size_barred edition32 object size }
 {
     match Kind::of_object(object) {
-        Some(Kind::Untyped) => size < 4,
+        Some(Kind::Untyped) => matches!(size, 0..=3),
         Some(Kind::CNode) => size == 0,
         _ => false,
     }

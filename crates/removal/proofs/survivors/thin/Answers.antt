@@ -36,14 +36,8 @@ bounds-low-depth c = omega (arith, depth_small (goal.at.bounds-low-depth c).Afte
 pub bounds-mark-row : goal.bounds-mark-row
 bounds-mark-row c = omega (arith, walk_row c.loop.invariant c.loop-test.true, rows_small _ c.requires)
 
-pub unlink-requires : goal.unlink-requires
-unlink-requires c = in_table (goal.at.unlink-requires c).In-loop
-
 pub bounds-low-depth-then-mark-row : goal.bounds-low-depth-then-mark-row
 bounds-low-depth-then-mark-row c = omega (arith, depth_small (goal.at.bounds-low-depth-then-mark-row c).After-word-deep)
-
-pub put-requires : goal.put-requires
-put-requires c = in_table (goal.at.put-requires c).In-loop
 
 pub bounds-low-depth-else-mark-row : goal.bounds-low-depth-else-mark-row
 bounds-low-depth-else-mark-row c = omega (arith, depth_small (goal.at.bounds-low-depth-else-mark-row c).After-word-deep)
