@@ -10,32 +10,33 @@ ghost use Rattle.model.specs.Edition.{edition32};
 ghost use Rattle.model.specs.Request as spec;
 ghost use Rattle.model.specs.Tables.{lent};
 
+use crate::booting::Fresh;
 use crate::message::Request;
 use lookup::SlotTable;
 use model::{Answer, Failure, Refusal};
-use table::figures;
+use table::figures::{GREATEST_M, LEAST_M, LEAST_R, Memory};
 
 // Boot takes m and r.
 #[tactic(auto, unfolding(model::specs::Request::boot, model::specs::Request::concluded), using(model::proofs::Steps::steps, model::proofs::Words::Bounds::radix_room))]
 pub fn boot(table: &mut [u32], control: &mut [u32; 4], m: u32, r: u32) -> Answer
     ensures { record { answer = result; tables = lent table.new control.new } ≡ spec.boot edition32 (lent table.old control.old) m r }
 {
-    if !figures::m_in_range(m) {
+    let Some(memory) = Memory::of(m) else {
         return Err(Refusal::RangeError {
-            least: figures::LEAST_M,
-            greatest: figures::GREATEST_M,
+            least: LEAST_M,
+            greatest: GREATEST_M,
+        });
+    };
+    if !memory.takes_radix(r) {
+        return Err(Refusal::RangeError {
+            least: LEAST_R,
+            greatest: memory.greatest_radix(),
         });
     }
-    if !figures::r_in_range(m, r) {
-        return Err(Refusal::RangeError {
-            least: figures::LEAST_R,
-            greatest: figures::greatest_radix(m),
-        });
-    }
-    if !figures::lengths_fit(table, control, m) {
+    if !memory.fits(table, control) {
         return Err(Refusal::BadTables);
     }
-    booting::fill(table, m, r);
+    Fresh { m, r }.fill(table);
     *control = [m, r, 0, m - r - 3];
     Ok(0)
 }

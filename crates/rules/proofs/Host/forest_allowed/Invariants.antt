@@ -7,4 +7,4 @@ use Rattle.rules.proofs.Stepping.{Underway}
 use Rattle.rules.proofs.Host.forest_allowed.Given as goal
 
 abbrev pub invariant-loop : goal.invariant-loop
-invariant-loop l = Underway l.self.m l.count l.self.table.now (walk edition32 l.self.m l.self.table.now (replicate most_rows 0) (replicate most_rows 4294967295) (follow edition32 l.self.table.now l.count l.head)) l.above l.owner l.k l.counter
+invariant-loop l = Underway l.self.memory.m l.count l.self.table.now (walk edition32 l.self.memory.m l.self.table.now (replicate most_rows 0) (replicate most_rows 4294967295) (follow edition32 l.self.table.now l.count l.head)) l.above l.owner l.k l.counter

@@ -5,4 +5,4 @@ use Rattle.rules.specs.Owners.{homes}
 use Rattle.rules.proofs.Host.housed.Given as goal
 
 abbrev pub invariant-loop-k : goal.invariant-loop-k
-invariant-loop-k l = homes edition32 l.self.m l.self.table.now l.owner l.k ≡ true
+invariant-loop-k l = homes edition32 l.self.memory.m l.self.table.now l.owner l.k ≡ true
