@@ -10,8 +10,8 @@ use Rattle.zhvanirek_core.proofs.request.Goals as goal
 pub returns-then-not-check : goal.returns-then-not-check
 returns-then-not-check c = request_bad _ _ _ (sym c.check.ensures ∙ c.if-not-check.true)
 
-pub service-requires : goal.service-requires
-service-requires c = ready _ (sym c.check.ensures ∙ c.if-not-check.false)
+pub invariant_of-service : goal.invariant_of-service
+invariant_of-service c = record { ready = ready _ (sym c.check.ensures ∙ c.if-not-check.false) }
 
 pub returns-in_err-service : goal.returns-in_err-service
 returns-in_err-service c =

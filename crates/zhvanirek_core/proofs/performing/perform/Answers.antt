@@ -10,11 +10,11 @@ use Rattle.zhvanirek_core.proofs.Gone.{delete_refused, delete_found, revoke_refu
 use Rattle.zhvanirek_core.proofs.Performed.{transfer_chosen, same_chosen}
 use Rattle.zhvanirek_core.proofs.performing.perform.Goals as goal
 
-pub target-requires-clause-ready : goal.target-requires-clause-ready
-target-requires-clause-ready c = ready _ c.requires.served.formed
+pub invariant_of-target : goal.invariant_of-target
+invariant_of-target c = record { ready = ready _ c.requires.served.formed }
 
-pub target-requires-in-Revoke-clause-ready : goal.target-requires-in-Revoke-clause-ready
-target-requires-in-Revoke-clause-ready c = ready _ c.requires.served.formed
+pub invariant_of-target-in-Revoke : goal.invariant_of-target-in-Revoke
+invariant_of-target-in-Revoke c = record { ready = ready _ c.requires.served.formed }
 
 pub returns-in-Copy : goal.returns-in-Copy
 returns-in-Copy c = c.transferring.ensures ∙ transfer_chosen _ _ _ _ Copy _ (sym c.in-Copy.ensures) (ap Masked c.word-rights.ensures)

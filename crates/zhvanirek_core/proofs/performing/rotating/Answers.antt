@@ -7,16 +7,16 @@ use Rattle.zhvanirek_core.proofs.Carried.{found_row, found_none}
 use Rattle.zhvanirek_core.proofs.Performed.{place_reached, pivot_refused, turn_refused, turn_found}
 use Rattle.zhvanirek_core.proofs.performing.rotating.Goals as goal
 
-pub row_named-requires : goal.row_named-requires
-row_named-requires c = ready _ c.requires.formed
+pub invariant_of-row_named : goal.invariant_of-row_named
+invariant_of-row_named c = record { ready = ready _ c.requires.formed }
 
 pub returns-in_err-pivot_root : goal.returns-in_err-pivot_root
 returns-in_err-pivot_root c =
     let told : c.from_residual.result ≡ Err c.in_err-pivot_root.field-0.0 = search rules in
     rw told (pivot_refused _ c.requires.formed _ _ _ _ (found_none c.row_named.ensures c.in_err-pivot_root.was))
 
-pub row_named-requires-2 : goal.row_named-requires-2
-row_named-requires-2 c = ready _ c.requires.formed
+pub invariant_of-row_named-2 : goal.invariant_of-row_named-2
+invariant_of-row_named-2 c = record { ready = ready _ c.requires.formed }
 
 pub returns-in_err-source_root : goal.returns-in_err-source_root
 returns-in_err-source_root c =
