@@ -11,7 +11,7 @@ use crate::show::{put_answer, show};
 use crate::tree::{draw, has_row};
 use std::io::{Result, Write};
 use std::marker::Model;
-use table::figures::{m_in_range, table_words};
+use table::figures::Memory;
 
 // How many words the largest table has.
 const WORDS: usize = 32768;
@@ -67,8 +67,8 @@ impl Desk {
     fn fit(&mut self, m: u32)
         ensures { self.new ≡ fitted self.old m }
     {
-        if m_in_range(m) {
-            self.lend(table_words(m));
+        if let Some(memory) = Memory::of(m) {
+            self.lend(memory.table_words());
         }
     }
 
@@ -151,7 +151,8 @@ impl Desk {
         if !rules::check(table, control) {
             return out.write_all(b"bad\n");
         }
-        draw(out, table, control[2], control[3])
+        let [_, _, head, count] = *control;
+        draw(out, table, head, count)
     }
 
     // `estate ROW`, of tables that are well-formed and have that row.

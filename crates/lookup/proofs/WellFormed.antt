@@ -3,6 +3,7 @@
 use Prim.Native.Nat.{ℕ, ◌+◌, ◌*◌, ◌≤◌, ◌<◌}
 use mathlib.Core.Path.{◌≡◌}
 use mathlib.Core.Bool.{true}
+use mathlib.Core.List.{List}
 use native.Mathlib.Decide.{dec_lt}
 use native.Mathlib.Omega.{arith}
 use lib.ListN.{length, get_or, get_or-eq_default}
@@ -10,7 +11,7 @@ use borrow.Author.Tests.{eqb-true, leb-true}
 use Rattle.model.specs.Edition.{edition32}
 use Rattle.model.specs.declared.Cap.{Cap}
 use Rattle.model.specs.Cap.{is_cnode}
-use Rattle.model.specs.Tables.{Tables, cap_of}
+use Rattle.model.specs.Tables.{Tables, cap_of, lent}
 use Rattle.model.specs.Rules.{well_formed, cap_allowed, size_allowed, fourth_allowed}
 use Rattle.model.proofs.Kept.Allowed.{size_of, fourth_of, cnode_filled, cnode_typed, slots_bound}
 use Rattle.model.proofs.Kept.Figures.{sane32}
@@ -50,3 +51,7 @@ module _ (t : Tables) (formed : well_formed edition32 t ≡ true) where
 
   pub ready : Ready t.table
   ready = record { small = omega (arith, rows_small t formed, table_long_lem t formed); nodes = usable }
+
+-- the same over the words, as the check applies it
+pub ready_words : (t control : List ℕ) → well_formed edition32 (lent t control) ≡ true → Ready t
+ready_words t control formed = ready _ formed

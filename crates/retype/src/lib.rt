@@ -33,6 +33,7 @@ pub fn allot(t: &mut [u32], control: &mut [u32; 4], row: Row, q: Retyping, first
 }
 
 // Retype, of the Untyped in a row.
+#[tactic(auto, using(lookup::proofs::WellFormed::ready_words))]
 pub fn retype(t: &mut [u32], control: &mut [u32; 4], row: Row, q: Retyping) -> Answer
     requires { Retypable (lent t.old control.old) row.0 q }
     ensures { record { answer = result; tables = lent t.new control.new } ≡ carried_out edition32 (lent t.old control.old) (λ f. spec.retype edition32 f row.0 q) }

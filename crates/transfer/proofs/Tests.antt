@@ -1,4 +1,4 @@
--- Copy, Move and Rotate are their tests and what is done after them; well-formed tables can be walked, and a move is stored in them.
+-- Copy, Move and Rotate are their tests and what is done after them.
 use Rattle.std.specs.Prelude.{Ok}
 use mathlib.Core.Path.{◌≡◌}
 use Prim.Native.Nat.{ℕ}
@@ -8,22 +8,14 @@ use Rattle.model.specs.declared.Place.{Place}
 use Rattle.model.specs.Edition.{Edition, edition32}
 use Rattle.model.specs.Check.{◌>>=◌, ◌>>◌}
 use Rattle.model.specs.Tree.{Forest, cap_at}
-use Rattle.model.specs.Tables.{Tables, cap_of, read, lent}
-use Rattle.model.specs.Stores.{moved_tables}
-use Rattle.model.proofs.Words.Bounds.{row_below}
-use Rattle.model.proofs.Transfer.Relocated.{write_relocated}
-use Rattle.lookup.specs.Ready.{Ready}
-use Rattle.lookup.proofs.WellFormed.{ready}
-use Rattle.transfer.specs.declared.ways.Way.{Way}
-use mathlib.Core.List.{List}
+use Rattle.model.specs.Tables.{Tables, cap_of, read}
 use Rattle.model.specs.Rules.{well_formed}
 use Rattle.model.specs.Operations.{find, vacant, present, copy, move, rotate}
 use Rattle.model.proofs.Words.WellFormed.{roomy32}
 use Rattle.model.proofs.Words.Caps.{caps_read}
 use Rattle.model.proofs.Outcome.{bind_bind, then_bind}
-use Rattle.transfer.specs.Places.{after}
 use Rattle.transfer.specs.Turns.{three_rows, turn_caps, turn, turned}
-use Rattle.transfer.specs.Ways.{free_slot, held_slot, way, copied, copy_along, relocated, Open}
+use Rattle.transfer.specs.Ways.{free_slot, held_slot, way, copied, copy_along, relocated}
 
 -- ---- on any edition and forest
 
@@ -58,14 +50,3 @@ module _ (t : Tables) (e : well_formed edition32 t ≡ true) (dest source : Plac
       → rotate edition32 forest dest pivot source datum pivot_datum
       ≡ (three_rows edition32 (cap_of t.table) dest pivot source >>= λ rs. turn edition32 (cap_of t.table) rs pivot source datum pivot_datum >>= λ w. Ok (turned w))
   rotate_in_words pivot datum pivot_datum = rw (caps_read edition32 roomy32 t e) (rotate_is edition32 forest dest source pivot datum pivot_datum)
-
--- ---- on the words that are lent
-
--- every CNode in them can be walked
-pub ready_words : (t control : List ℕ) → well_formed edition32 (lent t control) ≡ true → Ready t
-ready_words t control e = ready _ e
-
--- a move along an open way is what `moved_tables` stores
-pub relocated_words : (t : Tables) → well_formed edition32 t ≡ true → (w : Way) → Open t.table w → after edition32 t (relocated w) ≡ moved_tables edition32 t w.from.0 w.to.0 w.cap
-unfolding relocated
-relocated_words t e w way = write_relocated edition32 roomy32 t e _ _ _ way.held way.free (row_below t e _ way.to_in)

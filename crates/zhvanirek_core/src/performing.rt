@@ -13,6 +13,7 @@ use lookup::SlotTable;
 use model::{Answer, Change, Operation, Refusal, Row};
 
 // Copy, Mint, Move and Mutate: the source's root, then what is done.
+#[tactic(auto, using(lookup::proofs::WellFormed::ready_words))]
 fn transferring(
     table: &mut [u32],
     control: &mut [u32; 4],
@@ -37,6 +38,7 @@ fn transferring(
 }
 
 // Rotate: the pivot's root and the source's, then what is done.
+#[tactic(auto, using(lookup::proofs::WellFormed::ready_words))]
 fn rotating(
     table: &mut [u32],
     control: &mut [u32; 4],
@@ -57,6 +59,7 @@ fn rotating(
 }
 
 // Retype: its root, then what is done.
+#[tactic(auto, using(lookup::proofs::WellFormed::ready_words))]
 fn retyping(
     table: &mut [u32],
     control: &mut [u32; 4],
@@ -73,6 +76,7 @@ fn retyping(
 }
 
 // The operation that a request asks of its service.
+#[tactic(auto, using(lookup::proofs::WellFormed::ready_words))]
 pub fn perform(
     table: &mut [u32],
     control: &mut [u32; 4],

@@ -1,12 +1,8 @@
 -- `retype::retype` meets its contract: a refusal of the tests stores nothing, and otherwise the memory is allotted.
 -- Assumes nothing.
 use Rattle.std.proofs.Common.{rules}
-use Rattle.lookup.proofs.WellFormed.{ready}
 use Rattle.retype.proofs.Served.{first_vacant, retype_refused, retype_allotted}
 use Rattle.retype.proofs.retype.Goals as goal
-
-pub invariant_of-slots : goal.invariant_of-slots
-invariant_of-slots c = record { ready = ready _ c.requires.formed }
 
 pub allot-requires : goal.allot-requires
 allot-requires c = first_vacant _ _ _ c.requires _ c.in_ok-first.ensures

@@ -4,17 +4,10 @@ use Rattle.std.proofs.Common.{rules}
 use mathlib.Core.Path.{refl, sym, ap, ap₂, ◌∙◌}
 use Rattle.model.specs.declared.Change.TheVariants.{Masked, Minted, Mutated}
 use Rattle.model.specs.declared.Operation.TheVariants.{Copy, Mint, Move, Mutate, Delete, Revoke}
-use Rattle.lookup.proofs.WellFormed.{ready}
 use Rattle.zhvanirek_core.proofs.Carried.{found_row, found_none}
 use Rattle.zhvanirek_core.proofs.Gone.{delete_refused, delete_found, revoke_refused, revoke_found}
 use Rattle.zhvanirek_core.proofs.Performed.{transfer_chosen, same_chosen}
 use Rattle.zhvanirek_core.proofs.performing.perform.Goals as goal
-
-pub invariant_of-target : goal.invariant_of-target
-invariant_of-target c = record { ready = ready _ c.requires.served.formed }
-
-pub invariant_of-target-in-Revoke : goal.invariant_of-target-in-Revoke
-invariant_of-target-in-Revoke c = record { ready = ready _ c.requires.served.formed }
 
 pub returns-in-Copy : goal.returns-in-Copy
 returns-in-Copy c = c.transferring.ensures ∙ transfer_chosen _ _ _ _ Copy _ (sym c.in-Copy.ensures) (ap Masked c.word-rights.ensures)

@@ -2,13 +2,9 @@
 use Rattle.std.specs.Prelude.{◌≡◌, Err}
 use Rattle.std.proofs.Common.{rules}
 use mathlib.Core.Path.{◌∙◌}
-use Rattle.lookup.proofs.WellFormed.{ready}
 use Rattle.zhvanirek_core.proofs.Carried.{found_row, found_none}
 use Rattle.zhvanirek_core.proofs.Performed.{retypable, retype_refused, retype_found}
 use Rattle.zhvanirek_core.proofs.performing.retyping.Goals as goal
-
-pub invariant_of-row_named : goal.invariant_of-row_named
-invariant_of-row_named c = record { ready = ready _ c.requires.served.formed }
 
 pub returns-in_err-root : goal.returns-in_err-root
 returns-in_err-root c =

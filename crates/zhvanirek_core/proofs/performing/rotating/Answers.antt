@@ -2,21 +2,14 @@
 use Rattle.std.specs.Prelude.{◌≡◌, Err}
 use Rattle.std.proofs.Common.{rules}
 use mathlib.Core.Path.{◌∙◌}
-use Rattle.lookup.proofs.WellFormed.{ready}
 use Rattle.zhvanirek_core.proofs.Carried.{found_row, found_none}
 use Rattle.zhvanirek_core.proofs.Performed.{place_reached, pivot_refused, turn_refused, turn_found}
 use Rattle.zhvanirek_core.proofs.performing.rotating.Goals as goal
-
-pub invariant_of-row_named : goal.invariant_of-row_named
-invariant_of-row_named c = record { ready = ready _ c.requires.formed }
 
 pub returns-in_err-pivot_root : goal.returns-in_err-pivot_root
 returns-in_err-pivot_root c =
     let told : c.from_residual.result ≡ Err c.in_err-pivot_root.field-0.0 = search rules in
     rw told (pivot_refused _ c.requires.formed _ _ _ _ (found_none c.row_named.ensures c.in_err-pivot_root.was))
-
-pub invariant_of-row_named-2 : goal.invariant_of-row_named-2
-invariant_of-row_named-2 c = record { ready = ready _ c.requires.formed }
 
 pub returns-in_err-source_root : goal.returns-in_err-source_root
 returns-in_err-source_root c =

@@ -5,14 +5,10 @@ use mathlib.Core.Path.{◌∙◌}
 use Rattle.model.specs.Edition.{edition32}
 use Rattle.model.specs.Operations.{copy, move}
 use Rattle.model.proofs.Outcome.{comes_same}
-use Rattle.lookup.proofs.WellFormed.{ready}
 use Rattle.zhvanirek_core.specs.Serving.{transfer}
 use Rattle.zhvanirek_core.proofs.Carried.{found_row, found_none}
 use Rattle.zhvanirek_core.proofs.Performed.{copies, moves, place_reached, two_refused, two_found}
 use Rattle.zhvanirek_core.proofs.performing.transferring.Goals as goal
-
-pub invariant_of-row_named : goal.invariant_of-row_named
-invariant_of-row_named c = record { ready = ready _ c.requires.formed }
 
 pub returns-in_err-root : goal.returns-in_err-root
 returns-in_err-root c =
