@@ -20,7 +20,7 @@ pub fn field(address: u32, left: u32, n: u32) -> u32
     requires { (n ≤ left) × (left ≤ 32) }
     ensures { result ≡ spec.field address left n }
 {
-    let low = address as u64 >> (left - n);
+    let low = u64::from(address) >> (left - n);
     let mask = pow2(n) - 1;
     (low & mask) as u32
 }
@@ -115,14 +115,6 @@ impl SlotTable<'_> {
             node = next;
             left = rest;
         }
-    }
-
-    // The same, from the capability in a row.
-    pub fn lookup_from(&self, row: Row, address: u32, depth: u32) -> Result<Row, Miss>
-        requires { row.0 * 8 + 8 ≤ length self.now.words.now }
-        ensures { result ≡ spec.lookup edition32 (tables.cap_of self.now.words.now) (tables.cap_of self.now.words.now row.0) address depth }
-    {
-        self.lookup(cap_at(self.words, row), address, depth)
     }
 
     // The row that a place names.

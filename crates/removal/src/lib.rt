@@ -43,8 +43,7 @@ pub fn delete(t: &mut [u32], control: &mut [u32; 4], row: Row) -> u32
         cut(t, control, row);
         return 1;
     }
-    let mut going = Marking::new();
-    going.count_names(t);
+    let mut going = Marking::of(t);
     going.mark_row(t, row);
     sweep(t, control, &mut going)
 }
@@ -55,8 +54,7 @@ pub fn revoke(t: &mut [u32], control: &mut [u32; 4], row: Row) -> u32
     requires inside { row.0 * 8 + 8 ≤ length t.old }
     ensures { removing.Removes (lent t.old control.old) (lent t.new control.new) (removing.offspring (lent t.old control.old) row.0) result }
 {
-    let mut going = Marking::new();
-    going.count_names(t);
+    let mut going = Marking::of(t);
     going.mark_descendants(t, control, row);
     sweep(t, control, &mut going)
 }

@@ -71,7 +71,7 @@ pub fn answer_words(answer: Answer) -> [u32; 6]
         Err(Refusal::InvalidCapability) => [2, 0, 0, 0, 0, 0],
         Err(Refusal::IllegalOperation) => [3, 0, 0, 0, 0, 0],
         Err(Refusal::RangeError { least, greatest }) => [4, least, greatest, 0, 0, 0],
-        Err(Refusal::FailedLookup { source, failure }) => with_failure(6, source as u32, failure),
+        Err(Refusal::FailedLookup { source, failure }) => with_failure(6, source.into(), failure),
         Err(Refusal::TruncatedMessage) => [7, 0, 0, 0, 0, 0],
         Err(Refusal::DeleteFirst) => [8, 0, 0, 0, 0, 0],
         Err(Refusal::RevokeFirst) => [9, 0, 0, 0, 0, 0],

@@ -6,4 +6,4 @@ use Rattle.lookup.proofs.field.Goals as goal
 
 pub returns : goal.returns
 unfolding field
-returns c = rw (c.pow2-mask.ensures, and_mask)
+returns c = rw (c.pow2-mask.ensures, and_mask, c.from.ensures)

@@ -23,17 +23,14 @@ returns-then-goes_alone c =
     let there = found_at _ c.requires.formed _ c.cap_at.ensures c.is.ensures c.if-is.false in
     removes_one _ c.requires.formed _ there (sym c.goes_alone.ensures ∙ c.if-goes_alone.true) _ c.cut.ensures
 
-pub count_names-requires-clause-nodes : goal.count_names-requires-clause-nodes
-count_names-requires-clause-nodes c = nodes _ c.requires.formed
-
-pub count_names-requires-clause-started : goal.count_names-requires-clause-started
-count_names-requires-clause-started c = c.new-going.ensures _
+pub of-going-requires : goal.of-going-requires
+of-going-requires c = nodes _ c.requires.formed
 
 pub mark_row-requires-clause-counted : goal.mark_row-requires-clause-counted
-mark_row-requires-clause-counted c = counted_start _ _ (nodes _ c.requires.formed) c.count_names.ensures
+mark_row-requires-clause-counted c = counted_start _ _ (nodes _ c.requires.formed) c.of-going.ensures
 
 pub sweep-requires-clause-waiting : goal.sweep-requires-clause-waiting
-sweep-requires-clause-waiting c = c.mark_row.ensures.waiting 0 (waiting_start _ _ (nodes _ c.requires.formed) c.count_names.ensures)
+sweep-requires-clause-waiting c = c.mark_row.ensures.waiting 0 (waiting_start _ _ (nodes _ c.requires.formed) c.of-going.ensures)
 
 pub returns : goal.returns
-returns c = removes_target _ c.requires.formed _ c.count_names.ensures c.mark_row.ensures _ _ c.sweep.ensures
+returns c = removes_target _ c.requires.formed _ c.of-going.ensures c.mark_row.ensures _ _ c.sweep.ensures
