@@ -81,6 +81,7 @@ impl SlotTable<'_> {
         }
         let mut node = root;
         let mut left = depth;
+        // no count of turns: each takes as many bits as its CNode has
         loop {
             let missed = guard_missed(node, address, left);
             let taken = node.fourth + node.size;

@@ -1,4 +1,5 @@
 // Delete and Revoke on tables that are well-formed.
+// Table and control words go as two, as the host lends them: of a struct of two `&mut` each function would owe that both stay the same references.
 #![tactic(auto)]
 
 pub mod following; // following.rt: which rows go

@@ -1,4 +1,5 @@
 // Retype on checked tables.
+// Table and control words go as two, as the host lends them: of a struct of two `&mut` each function would owe that both stay the same references.
 #![tactic(auto)]
 
 pub mod object; // object.rt: sizes and capabilities of new objects

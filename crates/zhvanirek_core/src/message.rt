@@ -16,7 +16,7 @@ fn word_at(words: &[u32], i: usize) -> u32
     words.get(i).copied().unwrap_or(0)
 }
 
-// The capability in a row, nothing past the table: a caller may name any row.
+// The capability in a row, nothing past the table: a caller may name any row, so each word is tested, which `cap_at` need not do.
 #[tactic(auto, unfolding(model::specs::Tables::cap_of))]
 fn cap_or_nothing(table: &[u32], row: u32) -> Cap
     ensures { result ≡ tables.cap_of table.now row }

@@ -1,4 +1,5 @@
 // What each operation is asked: its roots in message order, then what it does.
+// Table and control words go as two, as the host lends them: of a struct of two `&mut` each function would owe that both stay the same references.
 ghost use Rattle.std.specs.Prelude.{◌≡◌, true, slice_index};
 ghost use Rattle.model.specs.Edition.{edition32};
 ghost use Rattle.model.specs.Cap as cap;
