@@ -1,4 +1,4 @@
--- Option ℕ a number byte by byte gives the number that the digits stand for, and no number where a byte is no digit or a word does not hold
+-- Reading a number byte by byte gives the number that the digits stand for, and no number where a byte is no digit or a word does not hold
 -- it: a number only grows by further digits. And a number that is printed in decimal is read back.
 use Rattle.std.specs.Prelude.{◌≡◌, ℕ, zero, suc, ◌+◌, ◌/◌, ◌%◌, ◌<◌, ◌≤◌, Bool, true, false, cond, ◌&&◌, ltb, leb, List, [], ◌∷◌, ◌++◌, None, Some}
 use mathlib.Core.Path.{refl, ◌∙◌}

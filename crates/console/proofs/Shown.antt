@@ -10,7 +10,7 @@ use Rattle.console.specs.Show.{answer_text, row_words, all_zero, row_text}
 
 -- ---- an answer
 
-pub answer_line : (words : List ℕ) → length words ≡ 6 → decimal (get_or words 0 0) ++ spaced (take 5 (drop 1 words)) ++ ascii "\n" ≡ answer_text words
+pub answer_line : (words : List ℕ) → length words ≡ 6 → answer_text words ≡ decimal (get_or words 0 0) ++ spaced (take 5 (drop 1 words)) ++ ascii "\n"
 answer_line [] h = absurd (omega arith)
 answer_line (w ∷ ws) h = rw (take_all 5 ws (omega arith))
 
@@ -44,11 +44,11 @@ part_is t k =
     rw eight
 
 -- a row of zeros is passed over
-pub row_hidden : (t : List ℕ) (k : ℕ) → true ≡ all_zero (part t k) → [] ≡ row_text t k
+pub row_hidden : (t : List ℕ) (k : ℕ) → all_zero (part t k) ≡ true → row_text t k ≡ []
 unfolding row_text
-row_hidden t k z = rw (sym (z ∙ ap all_zero (part_is t k)))
+row_hidden t k z = rw (sym (ap all_zero (part_is t k)) ∙ z)
 
 -- another is a line
-pub row_line : (t : List ℕ) (k : ℕ) → false ≡ all_zero (part t k) → ascii "row " ++ decimal k ++ spaced (part t k) ++ ascii "\n" ≡ row_text t k
+pub row_line : (t : List ℕ) (k : ℕ) → all_zero (part t k) ≡ false → row_text t k ≡ ascii "row " ++ decimal k ++ spaced (part t k) ++ ascii "\n"
 unfolding row_text
-row_line t k z = rw (part_is t k, sym (z ∙ ap all_zero (part_is t k)))
+row_line t k z = rw (part_is t k, sym (ap all_zero (part_is t k)) ∙ z)

@@ -1,10 +1,6 @@
--- A text is written and then another, what `io` prints of a number is its decimal text, and numbers with a space before each, one more at a time.
-use Rattle.std.specs.Prelude.{◌≡◌, ℕ, zero, suc, ◌+◌, ◌*◌, ◌/◌, ◌%◌, ◌^◌, ◌<◌, ◌≤◌, Bool, true, false, ltb, List, [], ◌∷◌, ◌++◌, length, get_or, take, Ok, Err, OnOk}
-use Rattle.std.specs.declared.option.Option.{Option}
-use Rattle.std.specs.declared.result.Result.{Result}
-use Rattle.std.specs.Io.KnownBytes.{Appends}
-use Rattle.std.proofs.KnownBytes.{Appends-trans}
-use mathlib.Core.Path.{refl}
+-- Writing a text and then another is writing both; what `io` prints of a number is its decimal text, and numbers with a space before each, one more at a time.
+use Rattle.std.specs.Prelude.{◌≡◌, ℕ, zero, suc, ◌+◌, ◌*◌, ◌/◌, ◌%◌, ◌^◌, ◌<◌, ◌≤◌, Bool, true, false, ltb, List, [], ◌∷◌, ◌++◌, length, get_or, take}
+use mathlib.Core.Path.{refl, sym, ap, ◌∙◌}
 use mathlib.Core.List.{append_assoc, append-nil}
 use native.Mathlib.Omega.{arith}
 use native.Mathlib.Nat.{one-le-pow, zero-lt-suc}
@@ -12,7 +8,8 @@ use native.Mathlib.Numerals.{add-one, unary_clauses}
 use lib.Seq.{take-suc}
 use borrow.Author.Tests.{lt-ltb, ltb-true, ltb-false}
 use Rattle.io.specs.Digits.{last_digits, IsDigitCount}
-use Rattle.console.specs.Writing.{decimal, decimal_within, spaced, ascii}
+use Rattle.console.specs.Writing.{Page, byte_on, wrote, under, Writes, decimal, decimal_within, spaced, ascii}
+use Rattle.console.specs.declared.output.Pen.{Pen}
 use Rattle.console.proofs.Decimal.{glyph_is}
 
 -- ---- numbers
@@ -22,8 +19,8 @@ spaced_append [] b = refl
 spaced_append (n ∷ a) b = rw (spaced_append a b) (simp append_assoc)
 
 -- one number more
-pub spaced_more : (ns : List ℕ) (i : ℕ) → i < length ns → spaced (take i ns) ++ (ascii " " ++ decimal (get_or ns i 0)) ≡ spaced (take (i + 1) ns)
-spaced_more ns i h = rw (add-one, take-suc ns i 0, spaced_append) (simp append-nil)
+pub spaced_more : (ns : List ℕ) (i : ℕ) → i < length ns → spaced (take (i + 1) ns) ≡ spaced (take i ns) ++ ascii " " ++ decimal (get_or ns i 0)
+spaced_more ns i h = rw (add-one, take-suc ns i 0, spaced_append) (simp (append_assoc, append-nil))
 
 -- what `io` prints of one digit
 digit_printed : (n k : ℕ) → n < 10 → IsDigitCount 10 1 n k → last_digits 10 k n ≡ (48 + n) ∷ []
@@ -53,13 +50,27 @@ pub printed : (n k : ℕ) → IsDigitCount 10 1 n k → last_digits 10 k n ≡ d
 unfolding decimal
 printed n k f = within_printed n n k (omega arith) f
 
--- ---- what a writer is given
+-- ---- what is written
 
--- a text, and then another
-pub and_then : {E : Type 0} (a b c : Option (List ℕ)) (r : Result Unit E) (s t : List ℕ) → Appends a b s → OnOk r (Appends b c t) → OnOk r (Appends a c (s ++ t))
-and_then a b c (Ok u) s t p q = Appends-trans a b c s t p q
-and_then a b c (Err e) s t p q = tt
+-- one byte more
+pub take_more : (text : List ℕ) (i : ℕ) → i < length text → take (i + 1) text ≡ take i text ++ (get_or text i 0 ∷ [])
+take_more text i h = rw (add-one, take-suc text i 0)
 
--- the same text by another name
-pub alike : {E : Type 0} (a b : Option (List ℕ)) (r : Result Unit E) {s t : List ℕ} → s ≡ t → OnOk r (Appends a b s) → OnOk r (Appends a b t)
-alike a b r e p = rw e at p
+-- a text and then another
+pub wrote_append : (p : Page) (s t : List ℕ) → wrote p (s ++ t) ≡ wrote (wrote p s) t
+unfolding wrote
+wrote_append p [] t = refl
+wrote_append p (b ∷ s) t = wrote_append (byte_on p b) s t
+
+infixl 20 ◌then◌
+pub ◌then◌ : {W : Type 0} {pen pen' pen'' : Pen W} {s t : List ℕ} → Writes pen s pen' → Writes pen' t pen'' → Writes pen (s ++ t) pen''
+◌then◌ {pen = pen} {s = s} {t = t} v w =
+    record {
+      page = w.page ∙ ap (λ (p : Page). wrote p t) v.page ∙ sym (wrote_append (under pen) s t);
+      lost = λ l. w.lost (v.lost l);
+    }
+
+-- nothing is written
+pub nothing : {W : Type 0} (pen : Pen W) → Writes pen [] pen
+unfolding wrote
+nothing pen = record { page = refl; lost = λ l. l }

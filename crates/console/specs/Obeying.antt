@@ -1,8 +1,7 @@
 -- What a line does to the tables and the control words, how many words are lent after it, and what it writes.
-use Rattle.std.specs.Prelude.{◌≡◌, ℕ, ◌+◌, ◌*◌, Bool, true, false, cond, ◌&&◌, List, [], ◌∷◌, ◌++◌, None, Some, Ok, Err, OnOk, length, take, drop, replicate, nat_le, slice_index, slice_range}
+use Rattle.std.specs.Prelude.{◌≡◌, ℕ, ◌+◌, ◌*◌, Bool, true, false, cond, ◌&&◌, List, [], ◌∷◌, ◌++◌, None, Some, Ok, Err, length, take, drop, replicate, nat_le, slice_index, slice_range}
 use Rattle.std.specs.declared.option.Option.{Option}
 use Rattle.std.specs.declared.result.Result.{Result}
-use Rattle.std.specs.Io.KnownBytes.{Appends}
 use Rattle.model.specs.Edition.{edition32}
 use Rattle.model.specs.Rules.{m_in_range, well_formed}
 use Rattle.model.specs.Tables.{Tables, lent, rows}
@@ -10,7 +9,8 @@ use Rattle.model.specs.Request.{Outcome, boot, request, six_words}
 use Rattle.console.specs.declared.asking.BadLine.{BadLine}
 use Rattle.console.specs.declared.asking.Command.{Command}
 use Rattle.console.specs.declared.asking.Command.TheVariants.{Boot, Size, Control, Row, Ask, Show, Tree, Estate}
-use Rattle.console.specs.Writing.{ascii}
+use Rattle.console.specs.declared.output.Pen.{Pen}
+use Rattle.console.specs.Writing.{Writes, ascii}
 use Rattle.console.specs.Show.{answer_text, show_text}
 use Rattle.console.specs.Drawn.{tree_text}
 
@@ -140,12 +140,12 @@ line_told (Err bad) = true
 
 -- ---- promises
 
--- From what is kept and what a writer holds to what is kept then, always, and to what the writer holds then, where the writing succeeds.
-pub record Replies {E : Type 0} (r : Reply) (s' : Lending) (out out' : Option (List ℕ)) (result : Result Unit E) : Type 0 where
+-- from what is kept and a pen to what is kept then and the pen after the text
+pub record Replies {W : Type 0} (r : Reply) (s' : Lending) (pen pen' : Pen W) : Type 0 where
   pub after : s' ≡ r.after
-  pub said : OnOk result (Appends out out' r.text)
+  pub said : Writes pen r.text pen'
 
 -- the same, where what is written is told
-pub record Obeys {E : Type 0} (told : Bool) (r : Reply) (s' : Lending) (out out' : Option (List ℕ)) (result : Result Unit E) : Type 0 where
+pub record Obeys {W : Type 0} (told : Bool) (r : Reply) (s' : Lending) (pen pen' : Pen W) : Type 0 where
   pub after : s' ≡ r.after
-  pub said : told ≡ true → OnOk result (Appends out out' r.text)
+  pub said : told ≡ true → Writes pen r.text pen'

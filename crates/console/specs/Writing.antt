@@ -1,7 +1,12 @@
--- Text that is written.
-use Rattle.std.specs.Prelude.{ℕ, zero, suc, ◌+◌, ◌/◌, ◌%◌, cond, List, [], ◌∷◌, ◌++◌, nat_lt}
+-- Text that is written: what it does to a pen's page and to the pen's place on it.
+use Rattle.std.specs.Prelude.{◌≡◌, ℕ, zero, suc, ◌+◌, ◌/◌, ◌%◌, true, false, cond, List, [], ◌∷◌, ◌++◌, length, nat_lt, slice_set, take}
+use Rattle.std.specs.declared.option.Option.{Option}
+use Rattle.std.specs.Io.KnownBytes.{Appends}
 use Prim.Native.Char.{code}
 use Prim.Native.String.{String, [] as none, ◌∷◌ as ◌then◌}
+use Rattle.console.specs.declared.output.Pen.{Pen}
+
+-- ---- text
 
 -- the bytes of a text in ASCII
 abbrev pub ascii : String → List ℕ
@@ -21,3 +26,44 @@ decimal n = decimal_within n n
 abbrev pub spaced : List ℕ → List ℕ
 spaced [] = []
 spaced (n ∷ ns) = ascii " " ++ decimal n ++ spaced ns
+
+-- ---- the page
+
+-- the page's bytes, and the place where the next byte goes
+pub record Page : Type 0 where
+  pub out : List ℕ
+  pub at : ℕ
+
+-- where the page is full it is handed on, and the pen starts at 0 again
+abbrev pub place : Page → ℕ
+place p = cond (nat_lt p.at (length p.out)) p.at 0
+
+-- one byte: it goes to the pen's place; an empty page takes nothing
+unfoldable pub byte_on : Page → ℕ → Page
+byte_on p b =
+    cond (nat_lt 0 (length p.out))
+    (record { out = slice_set p.out (place p) b; at = place p + 1 })
+    (record { out = p.out; at = 0 })
+
+-- the bytes of a text, one after the other
+unfoldable pub wrote : Page → (text : List ℕ) → Page
+wrote p [] = p
+wrote p (b ∷ bs) = wrote (byte_on p b) bs
+
+-- ---- promises
+
+-- the page under a pen
+abbrev pub under : {W : Type 0} → Pen W → Page
+under pen = record { out = pen.page; at = pen.at }
+
+-- With a pen a text is written. Whether a write fails is the operating system's, but a failure is not forgotten.
+pub record Writes {W : Type 0} (pen : Pen W) (text : List ℕ) (pen' : Pen W) : Type 0 where
+  pub page : under pen' ≡ wrote (under pen) text
+  pub lost : pen.lost ≡ true → pen'.lost ≡ true
+
+-- The page is handed on: where nothing is lost, the writer holds its bytes up to the pen's place after what it held.
+pub record HandsOn {W : Type 0} (contents : W → Option (List ℕ)) (pen pen' : Pen W) : Type 0 where
+  pub page : pen'.page ≡ pen.page
+  pub start : pen'.at ≡ 0
+  pub lost : pen.lost ≡ true → pen'.lost ≡ true
+  pub handed : pen'.lost ≡ false → Appends (contents pen.writer) (contents pen'.writer) (take pen.at pen.page)

@@ -1,15 +1,16 @@
 // What a line asks for is done.
-ghost use Rattle.std.specs.Prelude.{◌≡◌, ◌≤◌, OnOk, drop, length, slice_index, take};
-ghost use Rattle.std.specs.Io.KnownBytes.{Appends};
+ghost use Rattle.std.specs.Prelude.{◌≡◌, ◌≤◌, drop, length, slice_index, take};
 ghost use Rattle.console.specs.Asking.{command_of};
 ghost use Rattle.console.specs.Obeying.{Lending, Obeys, Replies, fitted, is_told, lend_if, lending, line_reply, line_told, on_ask_line, on_boot, on_row, on_show, on_size, on_tree, reply};
+ghost use Rattle.console.specs.Writing.{Writes};
 
 use crate::asking::{BadLine, Command, command_of};
 use crate::estate::put_estate;
 use crate::line::Line;
+use crate::output::Pen;
 use crate::show::{put_answer, show};
 use crate::tree::{draw, has_row};
-use std::io::{Result, Write};
+use std::io::Write;
 use std::marker::Model;
 use table::figures::Memory;
 
@@ -74,52 +75,52 @@ impl Desk {
 
     // `boot M R`
     #[tactic(auto, unfolding(crate::specs::Obeying::on_boot, crate::specs::Obeying::boot_lent))]
-    fn boot<W: Write>(&mut self, m: u32, radix: u32, out: &mut W) -> Result<()>
-        ensures { Replies (on_boot self.old m radix) self.new (W.contents out.old) (W.contents out.new) result }
+    fn boot<W: Write>(&mut self, m: u32, radix: u32, pen: &mut Pen<W>)
+        ensures { Replies (on_boot self.old m radix) self.new pen.old pen.new }
     {
         self.fit(m);
         // a copy is lent: the check does not cover two fields lent behind one reference
         let mut control = self.control;
         let answer = zhvanirek_core::boot(&mut self.table[..self.lent], &mut control, m, radix);
         self.control = control;
-        put_answer(out, zhvanirek_core::answer_words(answer))
+        put_answer(pen, zhvanirek_core::answer_words(answer));
     }
 
     // `size N`: a table of N zero words, and control words 0.
     #[tactic(auto, unfolding(crate::specs::Obeying::on_size))]
-    fn size<W: Write>(&mut self, n: u32, out: &mut W) -> Result<()>
-        ensures { Replies (on_size self.old n) self.new (W.contents out.old) (W.contents out.new) result }
+    fn size<W: Write>(&mut self, n: u32, pen: &mut Pen<W>)
+        ensures { Replies (on_size self.old n) self.new pen.old pen.new }
     {
         let table: &[u32] = &self.table;
         if table.len() < n as usize {
-            return out.write_all(b"bad\n");
+            return pen.put_text(b"bad\n");
         }
         self.lend(n as usize);
         self.control = [0; 4];
-        out.write_all(b"ok\n")
+        pen.put_text(b"ok\n");
     }
 
     // `row K A B C D E F G H`: sets row K, if it is wholly in the lent table.
     #[tactic(auto, unfolding(crate::specs::Obeying::on_row))]
-    fn row<W: Write>(&mut self, numbers: &[u32; 17], out: &mut W) -> Result<()>
-        ensures { Replies (on_row self.old (slice_index numbers.now 0) (take 8 (drop 1 numbers.now))) self.new (W.contents out.old) (W.contents out.new) result }
+    fn row<W: Write>(&mut self, numbers: &[u32; 17], pen: &mut Pen<W>)
+        ensures { Replies (on_row self.old (slice_index numbers.now 0) (take 8 (drop 1 numbers.now))) self.new pen.old pen.new }
     {
         let from = numbers[0] as usize * 8;
         if self.lent < from + 8 {
-            return out.write_all(b"bad\n");
+            return pen.put_text(b"bad\n");
         }
         self.table[from..from + 8].copy_from_slice(&numbers[1..9]);
-        out.write_all(b"ok\n")
+        pen.put_text(b"ok\n");
     }
 
     // `ask CALLER W0 W1 ..`: a request of the words after the first of a line's numbers.
     #[tactic(auto, unfolding(crate::specs::Obeying::on_ask_line, crate::specs::Obeying::on_ask))]
-    fn ask<W: Write>(&mut self, line: &Line, out: &mut W) -> Result<()>
-        ensures { Replies (on_ask_line self.old line.now.numbers line.now.count) self.new (W.contents out.old) (W.contents out.new) result }
+    fn ask<W: Write>(&mut self, line: &Line, pen: &mut Pen<W>)
+        ensures { Replies (on_ask_line self.old line.now.numbers line.now.count) self.new pen.old pen.new }
     {
         let numbers: &[u32] = &line.numbers;
         if line.count < 1 || numbers.len() < line.count {
-            return out.write_all(b"bad\n");
+            return pen.put_text(b"bad\n");
         }
         // a copy is lent, as in `boot`
         let mut control = self.control;
@@ -130,70 +131,71 @@ impl Desk {
             &numbers[1..line.count],
         );
         self.control = control;
-        put_answer(out, zhvanirek_core::answer_words(answer))
+        put_answer(pen, zhvanirek_core::answer_words(answer));
     }
 
     // `show`
     #[tactic(auto, unfolding(crate::specs::Obeying::on_show))]
-    fn show<W: Write>(&self, out: &mut W) -> Result<()>
-        ensures { OnOk result (Appends (W.contents out.old) (W.contents out.new) (on_show self.now).text) }
+    fn show<W: Write>(&self, pen: &mut Pen<W>)
+        ensures { Writes pen.old (on_show self.now).text pen.new }
     {
         let (table, control) = self.lent();
-        show(out, table, control)
+        show(pen, table, control);
     }
 
     // `tree`, of tables that are well-formed.
     #[tactic(auto, unfolding(crate::specs::Obeying::on_tree))]
-    fn tree<W: Write>(&self, out: &mut W) -> Result<()>
-        ensures { OnOk result (Appends (W.contents out.old) (W.contents out.new) (on_tree self.now).text) }
+    fn tree<W: Write>(&self, pen: &mut Pen<W>)
+        ensures { Writes pen.old (on_tree self.now).text pen.new }
     {
         let (table, control) = self.lent();
         if !rules::check(table, control) {
-            return out.write_all(b"bad\n");
+            return pen.put_text(b"bad\n");
         }
         let [_, _, head, count] = *control;
-        draw(out, table, head, count)
+        draw(pen, table, head, count);
     }
 
     // `estate ROW`, of tables that are well-formed and have that row.
-    fn estate<W: Write>(&self, row: u32, out: &mut W) -> Result<()> {
+    fn estate<W: Write>(&self, row: u32, pen: &mut Pen<W>) {
         let (table, control) = self.lent();
         if !has_row(table, row) || !rules::check(table, control) {
-            return out.write_all(b"bad\n");
+            return pen.put_text(b"bad\n");
         }
-        put_estate(out, table, row)
+        put_estate(pen, table, row);
     }
 
     // A command is done, with a line's numbers.
     #[tactic(auto, unfolding(crate::specs::Obeying::reply, crate::specs::Obeying::on_control, crate::specs::Obeying::on_show, crate::specs::Obeying::on_tree))]
-    fn run<W: Write>(&mut self, command: Command, line: &Line, out: &mut W) -> Result<()>
-        ensures { Obeys (is_told command) (reply command self.old line.now.numbers line.now.count) self.new (W.contents out.old) (W.contents out.new) result }
+    fn run<W: Write>(&mut self, command: Command, line: &Line, pen: &mut Pen<W>)
+        ensures { Obeys (is_told command) (reply command self.old line.now.numbers line.now.count) self.new pen.old pen.new }
     {
         let n = &line.numbers;
         match command {
-            Command::Boot => self.boot(n[0], n[1], out),
-            Command::Size => self.size(n[0], out),
+            Command::Boot => self.boot(n[0], n[1], pen),
+            Command::Size => self.size(n[0], pen),
             Command::Control => {
                 self.control = [n[0], n[1], n[2], n[3]];
-                out.write_all(b"ok\n")
+                pen.put_text(b"ok\n");
             }
-            Command::Row => self.row(n, out),
-            Command::Ask => self.ask(line, out),
-            Command::Show => self.show(out),
-            Command::Tree => self.tree(out),
-            Command::Estate => self.estate(n[0], out),
+            Command::Row => self.row(n, pen),
+            Command::Ask => self.ask(line, pen),
+            Command::Show => self.show(pen),
+            Command::Tree => self.tree(pen),
+            Command::Estate => self.estate(n[0], pen),
         }
     }
 
     // Does what a line asks for. It stands apart, so that what is done for each byte stays small.
     #[inline(never)]
-    pub fn obey<W: Write>(&mut self, line: &Line, out: &mut W) -> Result<()>
-        ensures { Obeys (line_told (command_of line.now)) (line_reply (command_of line.now) self.old line.now.numbers line.now.count) self.new (W.contents out.old) (W.contents out.new) result }
+    #[tactic(auto, unfolding(crate::specs::Writing::wrote))]
+    pub fn obey<W: Write>(&mut self, line: &Line, pen: &mut Pen<W>)
+        ensures { Obeys (line_told (command_of line.now)) (line_reply (command_of line.now) self.old line.now.numbers line.now.count) self.new pen.old pen.new }
     {
         match command_of(line) {
-            Ok(Some(command)) => self.run(command, line, out),
-            Ok(None) => Ok(()),
-            Err(BadLine) => out.write_all(b"bad\n"),
+            Ok(Some(command)) => self.run(command, line, pen),
+            Ok(None) => {}
+            Err(BadLine) => pen.put_text(b"bad\n"),
         }
     }
 }

@@ -2,10 +2,10 @@
 // and every row that names the same typed object.
 ghost use Rattle.std.specs.Prelude.{◌≤◌};
 
-use crate::output::put_number;
+use crate::output::Pen;
 use crate::tree::{has_row, next_row};
 use model::{Cap, Kind, Row};
-use std::io::{Result, Write};
+use std::io::Write;
 use table::caps::same_object;
 use table::figures::MOST_ROWS;
 use table::{Column, cap_at, word};
@@ -98,7 +98,7 @@ impl Estate {
 
 // The rows of the estate of a row, ascending, as a line. It stands apart for its large arrays.
 #[inline(never)]
-pub fn put_estate<W: Write>(out: &mut W, table: &[u32], row: u32) -> Result<()> {
+pub fn put_estate<W: Write>(pen: &mut Pen<W>, table: &[u32], row: u32) {
     let mut estate = Estate {
         marks: [false; MOST_ROWS],
         queue: [0; MOST_ROWS],
@@ -106,12 +106,12 @@ pub fn put_estate<W: Write>(out: &mut W, table: &[u32], row: u32) -> Result<()> 
     };
     estate.enter(row as usize);
     estate.close(table);
-    out.write_all(b"estate")?;
+    pen.put_text(b"estate");
     for (k, &marked) in estate.marks.iter().enumerate() {
         if marked {
-            out.write_all(b" ")?;
-            put_number(out, k as u64)?;
+            pen.put_byte(b' ');
+            pen.put_number(k as u64);
         }
     }
-    out.write_all(b"\n")
+    pen.put_byte(b'\n');
 }

@@ -12,7 +12,7 @@ mod tree; // tree.rt: the derivation tree, drawn
 use crate::command::Desk;
 use crate::line::Line;
 use crate::output::Pen;
-use std::io::{Read, Result, Write};
+use std::io::{Read, Write};
 
 // How many bytes are read at once, at most.
 const CHUNK: usize = 65536;
@@ -26,28 +26,27 @@ struct Session {
 
 impl Session {
     // The line is whole: what it asks for is done, and the next one begins.
-    fn end_line<W: Write>(&mut self, out: &mut W) -> Result<()> {
+    fn end_line<W: Write>(&mut self, pen: &mut Pen<W>) {
         self.line.whole();
-        self.desk.obey(&self.line, out)?;
+        self.desk.obey(&self.line, pen);
         self.line = Line::new();
-        Ok(())
     }
 
     // Bytes of the input. What is to be written for them is handed on.
-    fn feed<W: Write>(&mut self, bytes: &[u8], out: &mut W) -> Result<()> {
+    fn feed<W: Write>(&mut self, bytes: &[u8], pen: &mut Pen<W>) {
         for &byte in bytes {
             match byte {
-                b'\n' => self.end_line(out)?,
+                b'\n' => self.end_line(pen),
                 _ => self.line.step(byte),
             }
         }
-        out.flush()
+        pen.flush();
     }
 }
 
-// Reads to the end of the input, which a read that fails is too, or until a write fails. The end is taken as a line feed, so that a last line
-// needs none. A proved loop has to end, and nothing says that the input does: so the turns are counted, up to a number that no run reaches.
-fn run<R: Read, W: Write>(input: &mut R, out: &mut W) -> Result<()> {
+// Reads to the end of the input, which a read that fails is too, or until a write has failed. The end is taken as a line feed, so that a last
+// line needs none. A proved loop has to end, and nothing says that the input does: so the turns are counted, up to a number that no run reaches.
+fn run<R: Read, W: Write>(input: &mut R, pen: &mut Pen<W>) {
     let mut session = Session {
         desk: Desk::new(),
         line: Line::new(),
@@ -55,14 +54,16 @@ fn run<R: Read, W: Write>(input: &mut R, out: &mut W) -> Result<()> {
     let mut chunk = [0u8; CHUNK];
     for _ in 0..u64::MAX {
         match input.read(&mut chunk) {
-            Ok(count) if 0 < count => session.feed(&chunk[..count], out)?,
-            _ => return session.feed(b"\n", out),
+            Ok(count) if 0 < count => session.feed(&chunk[..count], pen),
+            _ => return session.feed(b"\n", pen),
+        }
+        if pen.has_lost() {
+            return;
         }
     }
-    Ok(())
 }
 
 // A write that fails ends the program, and is no failure of its own.
 fn main(rt: HostRuntime) {
-    let _ = run(&mut rt.stdin(), &mut Pen::new(rt.stdout()));
+    run(&mut rt.stdin(), &mut Pen::new(rt.stdout()));
 }

@@ -1,149 +1,104 @@
-// Text that is written: numbers in decimal, and a page on which bytes are collected before they are handed on.
-ghost use Rattle.std.specs.Prelude.{◌≡◌, ◌+◌, ◌≤◌, [], OnOk, length, slice_range};
-ghost use Rattle.std.specs.Io.KnownBytes.{Appends, Keeps};
-ghost use Rattle.console.specs.Writing.{decimal, spaced};
+// Text that is written: bytes are collected on a page, which is handed on when it is full and at the end of each turn.
+ghost use Rattle.std.specs.Prelude.{◌≡◌, ◌≤◌, [], ◌∷◌, false};
 
-use std::io::{ErrorKind, Result as IoResult, Write};
+use std::io::Write;
 
 // How many bytes a page holds.
 const PAGE: usize = 65536;
 
-// A writer with a page before it, whose bytes between `from` and `at` are still to be handed on.
+// A writer with a page before it, whose bytes before `at` are still to be handed on. `lost` says that a write failed.
 #[derive(Drop)]
 pub struct Pen<W> {
     writer: W,
     page: [u8; PAGE],
-    from: usize,
     at: usize,
-    ghost in_order: { from ≤ at },
+    // a flag and no result: what writes cannot fail, and what it leaves on the page is promised on every run
+    lost: bool,
     ghost on_page: { at ≤ 65536 },
 }
 
 impl<W: Write> Pen<W> {
-    ghost use Rattle.console.specs.Pen.{pen_contents, pen_text};
+    ghost use Rattle.console.specs.Writing.{HandsOn, Writes, decimal, spaced};
 
     // An empty page before a writer.
     pub fn new(writer: W) -> Pen<W>
         ensures writer { result.writer ≡ writer }
-        ensures empty { pen_text result ≡ [] }
+        ensures start { result.at ≡ 0 }
+        ensures kept { result.lost ≡ false }
     {
         Pen {
             writer,
             page: [0; PAGE],
-            from: 0,
             at: 0,
+            lost: false,
         }
     }
 
-    // Hands on what the page holds. What a failure leaves stays on the page.
-    fn hand_on(&mut self) -> Result<(), ErrorKind>
-        ensures bytes { Keeps (pen_contents W.contents self.old) (pen_contents W.contents self.new) }
-        ensures start { OnOk result (self.new.at ≡ 0) }
+    // A write failed.
+    pub fn has_lost(&self) -> bool
+        ensures { result ≡ self.now.lost }
     {
-        let (from, result) = write_out(&mut self.writer, &self.page[..self.at], self.from);
-        self.from = from;
-        result?;
-        self.from = 0;
-        self.at = 0;
-        Ok(())
+        self.lost
     }
 
-    // A text that there is room for.
-    fn put(&mut self, text: &[u8])
-        requires { self.old.at + length text.now ≤ 65536 }
-        ensures { Appends (pen_contents W.contents self.old) (pen_contents W.contents self.new) text.now }
-    {
-        // a local, so that the loop stores bytes alone
-        let mut at = self.at;
-        for &byte in text {
-            self.page[at] = byte;
-            at += 1;
-        }
-        self.at = at;
-    }
-
-    // A text that there is no room for: the page is handed on first. It stands apart, so that the test for room is inlined.
+    // Hands on what the page holds. It stands apart, so that the test for a full page is inlined.
     #[cold]
     #[inline(never)]
-    fn put_cold(&mut self, text: &[u8]) -> Result<(), ErrorKind>
-        ensures { OnOk result (Appends (pen_contents W.contents self.old) (pen_contents W.contents self.new) text.now) }
+    fn hand_on(&mut self)
+        ensures { HandsOn W.contents self.old self.new }
     {
-        self.hand_on()?;
-        if PAGE < text.len() {
-            return write_out(&mut self.writer, text, 0).1;
-        }
-        self.put(text);
-        Ok(())
+        self.lost |= self.writer.write_all(&self.page[..self.at]).is_err();
+        self.at = 0;
     }
-}
 
-// Writes the bytes of a page from a place on, until all are written or a write fails: up to where, and how that went.
-fn write_out<W: Write>(writer: &mut W, page: &[u8], from: usize) -> (usize, Result<(), ErrorKind>)
-    requires { from ≤ length page.now }
-    ensures start { from ≤ result.0 }
-    ensures end { result.0 ≤ length page.now }
-    ensures all { OnOk result.1 (result.0 ≡ length page.now) }
-    ensures bytes { Appends (W.contents writer.old) (W.contents writer.new) (slice_range page.now from result.0) }
-{
-    // not a `for`: a write takes as many bytes as it likes
-    let mut at = from;
-    while at < page.len() {
-        match writer.write(&page[at..]) {
-            Ok(0) => return (at, Err(ErrorKind::WriteZero)),
-            Ok(n) => at += n,
-            Err(e) => return (at, Err(e.kind())),
-        }
+    // Hands on what the page holds, and what the writer holds back.
+    pub fn flush(&mut self)
+        ensures { HandsOn W.contents self.old self.new }
+    {
+        self.hand_on();
+        self.lost |= self.writer.flush().is_err();
     }
-    (at, Ok(()))
-}
 
-impl<W: Write> Write for Pen<W> {
-    ghost use Rattle.console.specs.Pen.{pen_contents};
-
-    ghost contents = { pen_contents W.contents };
-
-    fn write(&mut self, buf: &[u8]) -> IoResult<usize> {
+    // A byte: a full page is handed on first.
+    #[tactic(auto, unfolding(crate::specs::Writing::byte_on, crate::specs::Writing::wrote))]
+    pub fn put_byte(&mut self, byte: u8)
+        ensures { Writes self.old (byte ∷ []) self.new }
+    {
         if self.at == PAGE {
-            self.hand_on()?;
+            self.hand_on();
         }
-        let n = buf.len().min(PAGE - self.at);
-        self.put(&buf[..n]);
-        Ok(n)
+        self.page[self.at] = byte;
+        self.at += 1;
     }
 
-    fn flush(&mut self) -> IoResult<()> {
-        self.hand_on()?;
-        self.writer.flush()
-    }
-
-    #[inline(always)]
-    fn write_all(&mut self, buf: &[u8]) -> IoResult<()> {
-        if PAGE - self.at < buf.len() {
-            self.put_cold(buf)?;
-        } else {
-            self.put(buf);
+    // The bytes of a text.
+    #[tactic(auto, unfolding(crate::specs::Writing::wrote), using(crate::proofs::Writing::wrote_append, crate::proofs::Writing::take_more))]
+    pub fn put_text(&mut self, text: &[u8])
+        ensures { Writes self.old text.now self.new }
+    {
+        for &byte in text {
+            self.put_byte(byte);
         }
-        Ok(())
     }
-}
 
-// A number in decimal.
-#[tactic(auto, using(crate::proofs::Writing::printed))]
-pub fn put_number<W: Write>(out: &mut W, n: u64) -> IoResult<()>
-    ensures { OnOk result (Appends (W.contents out.old) (W.contents out.new) (decimal n)) }
-{
-    let mut digits = [0u8; 20];
-    let k = io::decimal(n, &mut digits);
-    out.write_all(&digits[..k])
-}
-
-// Numbers, with a space before each.
-pub fn put_numbers<W: Write>(out: &mut W, numbers: &[u32]) -> IoResult<()>
-    ensures { OnOk result (Appends (W.contents out.old) (W.contents out.new) (spaced numbers.now)) }
-{
-    for &n in numbers {
-        out.write_all(b" ")?;
-        put_number(out, n.into())?;
+    // A number in decimal.
+    #[tactic(auto, using(crate::proofs::Writing::printed))]
+    pub fn put_number(&mut self, n: u64)
+        ensures { Writes self.old (decimal n) self.new }
+    {
+        let mut digits = [0u8; 20];
+        let k = io::decimal(n, &mut digits);
+        self.put_text(&digits[..k]);
     }
-    Ok(())
+
+    // Numbers, with a space before each.
+    #[tactic(auto, unfolding(crate::specs::Writing::wrote), using(crate::proofs::Writing::wrote_append, crate::proofs::Writing::spaced_more))]
+    pub fn put_numbers(&mut self, numbers: &[u32])
+        ensures { Writes self.old (spaced numbers.now) self.new }
+    {
+        for &n in numbers {
+            self.put_byte(b' ');
+            self.put_number(n.into());
+        }
+    }
 }

@@ -1,18 +1,21 @@
 // The tables as lines of text.
-ghost use Rattle.std.specs.Prelude.{◌≡◌, ◌+◌, ◌*◌, ◌≤◌, length, OnOk};
-ghost use Rattle.std.specs.Io.KnownBytes.{Appends};
-ghost use Rattle.console.specs.Show.{all_zero, answer_text, row_text, show_text};
+#![tactic(auto, unfolding(crate::specs::Writing::wrote), using(crate::proofs::Writing::wrote_append))]
 
-use crate::output::{put_number, put_numbers};
-use std::io::{Result, Write};
+ghost use Rattle.std.specs.Prelude.{◌≡◌, ◌+◌, ◌*◌, ◌≤◌, length};
+ghost use Rattle.console.specs.Show.{all_zero, answer_text, row_text, show_text};
+ghost use Rattle.console.specs.Writing.{Writes};
+
+use crate::output::Pen;
+use std::io::Write;
 
 // The six words of an answer, as a line.
-pub fn put_answer<W: Write>(out: &mut W, words: [u32; 6]) -> Result<()>
-    ensures { OnOk result (Appends (W.contents out.old) (W.contents out.new) (answer_text words)) }
+#[tactic(auto, using(crate::proofs::Writing::wrote_append, crate::proofs::Shown::answer_line))]
+pub fn put_answer<W: Write>(pen: &mut Pen<W>, words: [u32; 6])
+    ensures { Writes pen.old (answer_text words) pen.new }
 {
-    put_number(out, words[0].into())?;
-    put_numbers(out, &words[1..6])?;
-    out.write_all(b"\n")
+    pen.put_number(words[0].into());
+    pen.put_numbers(&words[1..6]);
+    pen.put_byte(b'\n');
 }
 
 // All words are 0.
@@ -23,30 +26,31 @@ fn all_zero(words: &[u32]) -> bool
 }
 
 // Row k, if a word of it is not 0.
-fn show_row<W: Write>(out: &mut W, table: &[u32], k: usize) -> Result<()>
+#[tactic(auto, unfolding(crate::specs::Writing::wrote), using(crate::proofs::Writing::wrote_append, crate::proofs::Shown::row_hidden, crate::proofs::Shown::row_line))]
+fn show_row<W: Write>(pen: &mut Pen<W>, table: &[u32], k: usize)
     requires { k * 8 + 8 ≤ length table.now }
-    ensures { OnOk result (Appends (W.contents out.old) (W.contents out.new) (row_text table.now k)) }
+    ensures { Writes pen.old (row_text table.now k) pen.new }
 {
     let row = &table[k * 8..k * 8 + 8];
     if all_zero(row) {
-        return Ok(());
+        return;
     }
-    out.write_all(b"row ")?;
-    put_number(out, k as u64)?;
-    put_numbers(out, row)?;
-    out.write_all(b"\n")
+    pen.put_text(b"row ");
+    pen.put_number(k as u64);
+    pen.put_numbers(row);
+    pen.put_byte(b'\n');
 }
 
 // The control words, each row with a word that is not 0, and `end`.
-#[tactic(auto, unfolding(crate::specs::Show::show_text))]
-pub fn show<W: Write>(out: &mut W, table: &[u32], control: &[u32; 4]) -> Result<()>
-    ensures { OnOk result (Appends (W.contents out.old) (W.contents out.new) (show_text table.now control.now)) }
+#[tactic(auto, unfolding(crate::specs::Show::show_text, crate::specs::Writing::wrote), using(crate::proofs::Writing::wrote_append))]
+pub fn show<W: Write>(pen: &mut Pen<W>, table: &[u32], control: &[u32; 4])
+    ensures { Writes pen.old (show_text table.now control.now) pen.new }
 {
-    out.write_all(b"control")?;
-    put_numbers(out, control)?;
-    out.write_all(b"\n")?;
+    pen.put_text(b"control");
+    pen.put_numbers(control);
+    pen.put_byte(b'\n');
     for k in 0..table.len() / 8 {
-        show_row(out, table, k)?;
+        show_row(pen, table, k);
     }
-    out.write_all(b"end\n")
+    pen.put_text(b"end\n");
 }

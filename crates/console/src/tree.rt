@@ -1,12 +1,13 @@
 // The derivation tree, drawn for a person: a line for each listed row, indented by its depth.
-ghost use Rattle.std.specs.Prelude.{◌≡◌, ◌+◌, ◌*◌, ◌++◌, OnOk, length, nat_le};
-ghost use Rattle.std.specs.Io.KnownBytes.{Appends};
-ghost use Rattle.console.specs.Drawn.{badge_text, bytes_text, cap_text, details_text, drawn_row, indent, kind_text, named, next_row, rights_name, rights_text, tree_text};
-ghost use Rattle.console.specs.Writing.{ascii, decimal};
+#![tactic(auto, unfolding(crate::specs::Writing::wrote), using(crate::proofs::Writing::wrote_append))]
 
-use crate::output::put_number;
+ghost use Rattle.std.specs.Prelude.{◌≡◌, ◌+◌, ◌*◌, ◌++◌, length, nat_le};
+ghost use Rattle.console.specs.Drawn.{badge_text, bytes_text, cap_text, details_text, drawn_row, indent, kind_text, named, next_row, rights_name, rights_text, tree_text};
+ghost use Rattle.console.specs.Writing.{Writes, ascii, decimal};
+
+use crate::output::Pen;
 use model::{Cap, Kind, Row};
-use std::io::{Result, Write};
+use std::io::Write;
 use table::{Column, cap_at, word};
 
 // The table has a row.
@@ -27,142 +28,140 @@ pub fn next_row(table: &[u32], row: u32) -> u32
 }
 
 // Two spaces for each depth.
-fn put_indent<W: Write>(out: &mut W, depth: u32) -> Result<()>
-    ensures { OnOk result (Appends (W.contents out.old) (W.contents out.new) (indent depth)) }
+fn put_indent<W: Write>(pen: &mut Pen<W>, depth: u32)
+    ensures { Writes pen.old (indent depth) pen.new }
 {
     for _ in 0..depth {
-        out.write_all(b"  ")?;
+        pen.put_text(b"  ");
     }
-    Ok(())
 }
 
 // A name and a number.
-fn put_named<W: Write>(out: &mut W, name: &[u8], n: u32) -> Result<()>
-    ensures { OnOk result (Appends (W.contents out.old) (W.contents out.new) (name.now ++ decimal n)) }
+fn put_named<W: Write>(pen: &mut Pen<W>, name: &[u8], n: u32)
+    ensures { Writes pen.old (name.now ++ decimal n) pen.new }
 {
-    out.write_all(name)?;
-    put_number(out, n.into())
+    pen.put_text(name);
+    pen.put_number(n.into());
 }
 
 // The name of a kind.
 #[tactic(auto, unfolding(crate::specs::Drawn::kind_text))]
-fn put_kind<W: Write>(out: &mut W, kind: u32) -> Result<()>
-    ensures { OnOk result (Appends (W.contents out.old) (W.contents out.new) (kind_text kind)) }
+fn put_kind<W: Write>(pen: &mut Pen<W>, kind: u32)
+    ensures { Writes pen.old (kind_text kind) pen.new }
 {
     match Kind::try_from(kind) {
-        Ok(Kind::Untyped) => out.write_all(b"Untyped"),
-        Ok(Kind::Tcb) => out.write_all(b"TCB"),
-        Ok(Kind::Endpoint) => out.write_all(b"Endpoint"),
-        Ok(Kind::Notification) => out.write_all(b"Notification"),
-        Ok(Kind::CNode) => out.write_all(b"CNode"),
-        _ => out.write_all(b"Frame"),
+        Ok(Kind::Untyped) => pen.put_text(b"Untyped"),
+        Ok(Kind::Tcb) => pen.put_text(b"TCB"),
+        Ok(Kind::Endpoint) => pen.put_text(b"Endpoint"),
+        Ok(Kind::Notification) => pen.put_text(b"Notification"),
+        Ok(Kind::CNode) => pen.put_text(b"CNode"),
+        _ => pen.put_text(b"Frame"),
     }
 }
 
 // The name of rights: write 1, read 2, grant 4.
 #[tactic(auto, unfolding(crate::specs::Drawn::rights_name))]
-fn put_rights_name<W: Write>(out: &mut W, rights: u32) -> Result<()>
-    ensures { OnOk result (Appends (W.contents out.old) (W.contents out.new) (rights_name rights)) }
+fn put_rights_name<W: Write>(pen: &mut Pen<W>, rights: u32)
+    ensures { Writes pen.old (rights_name rights) pen.new }
 {
     match rights {
-        0 => out.write_all(b"none"),
-        1 => out.write_all(b"write"),
-        2 => out.write_all(b"read"),
-        3 => out.write_all(b"write+read"),
-        4 => out.write_all(b"grant"),
-        5 => out.write_all(b"write+grant"),
-        6 => out.write_all(b"read+grant"),
-        _ => out.write_all(b"write+read+grant"),
+        0 => pen.put_text(b"none"),
+        1 => pen.put_text(b"write"),
+        2 => pen.put_text(b"read"),
+        3 => pen.put_text(b"write+read"),
+        4 => pen.put_text(b"grant"),
+        5 => pen.put_text(b"write+grant"),
+        6 => pen.put_text(b"read+grant"),
+        _ => pen.put_text(b"write+read+grant"),
     }
 }
 
 // Rights.
-fn put_rights<W: Write>(out: &mut W, rights: u32) -> Result<()>
-    ensures { OnOk result (Appends (W.contents out.old) (W.contents out.new) (rights_text rights)) }
+fn put_rights<W: Write>(pen: &mut Pen<W>, rights: u32)
+    ensures { Writes pen.old (rights_text rights) pen.new }
 {
-    out.write_all(b" rights ")?;
-    put_rights_name(out, rights)
+    pen.put_text(b" rights ");
+    put_rights_name(pen, rights);
 }
 
 // The bytes of an Untyped, from its size.
-fn put_bytes<W: Write>(out: &mut W, size: u32) -> Result<()>
-    ensures { OnOk result (Appends (W.contents out.old) (W.contents out.new) (bytes_text size)) }
+fn put_bytes<W: Write>(pen: &mut Pen<W>, size: u32)
+    ensures { Writes pen.old (bytes_text size) pen.new }
 {
-    out.write_all(b" bytes ")?;
+    pen.put_text(b" bytes ");
     if size < 64 {
-        return put_number(out, table::size::pow2(size));
+        pen.put_number(table::size::pow2(size));
     }
-    Ok(())
 }
 
 // The badge and the rights of an Endpoint or a Notification.
-fn put_badge<W: Write>(out: &mut W, cap: Cap) -> Result<()>
-    ensures { OnOk result (Appends (W.contents out.old) (W.contents out.new) (badge_text cap)) }
+fn put_badge<W: Write>(pen: &mut Pen<W>, cap: Cap)
+    ensures { Writes pen.old (badge_text cap) pen.new }
 {
-    put_named(out, b" badge ", cap.third)?;
-    put_rights(out, cap.fourth)
+    put_named(pen, b" badge ", cap.third);
+    put_rights(pen, cap.fourth);
 }
 
 // What a capability holds beside its kind and address.
-#[tactic(auto, unfolding(crate::specs::Drawn::details_text))]
-fn put_details<W: Write>(out: &mut W, cap: Cap) -> Result<()>
-    ensures { OnOk result (Appends (W.contents out.old) (W.contents out.new) (details_text cap)) }
+#[tactic(auto, unfolding(crate::specs::Drawn::details_text, crate::specs::Writing::wrote), using(crate::proofs::Writing::wrote_append))]
+fn put_details<W: Write>(pen: &mut Pen<W>, cap: Cap)
+    ensures { Writes pen.old (details_text cap) pen.new }
 {
     match Kind::try_from(cap.kind) {
         Ok(Kind::Untyped) => {
-            put_bytes(out, cap.size)?;
-            put_named(out, b" watermark ", cap.third)
+            put_bytes(pen, cap.size);
+            put_named(pen, b" watermark ", cap.third);
         }
-        Ok(Kind::Tcb) => Ok(()),
-        Ok(Kind::Endpoint | Kind::Notification) => put_badge(out, cap),
+        Ok(Kind::Tcb) => {}
+        Ok(Kind::Endpoint | Kind::Notification) => put_badge(pen, cap),
         Ok(Kind::CNode) => {
-            put_named(out, b" radix ", cap.size)?;
-            put_named(out, b" guard ", cap.third)?;
-            put_named(out, b" size ", cap.fourth)
+            put_named(pen, b" radix ", cap.size);
+            put_named(pen, b" guard ", cap.third);
+            put_named(pen, b" size ", cap.fourth);
         }
-        _ => put_rights(out, cap.fourth),
+        _ => put_rights(pen, cap.fourth),
     }
 }
 
 // The start of a row's line: its depth and its number.
-fn put_row<W: Write>(out: &mut W, row: u32, depth: u32) -> Result<()>
-    ensures { OnOk result (Appends (W.contents out.old) (W.contents out.new) (indent depth ++ named "row " row ++ ascii " ")) }
+fn put_row<W: Write>(pen: &mut Pen<W>, row: u32, depth: u32)
+    ensures { Writes pen.old (indent depth ++ named "row " row ++ ascii " ") pen.new }
 {
-    put_indent(out, depth)?;
-    put_named(out, b"row ", row)?;
-    out.write_all(b" ")
+    put_indent(pen, depth);
+    put_named(pen, b"row ", row);
+    pen.put_byte(b' ');
 }
 
 // The rest of a row's line: its capability.
-fn put_cap<W: Write>(out: &mut W, cap: Cap) -> Result<()>
-    ensures { OnOk result (Appends (W.contents out.old) (W.contents out.new) (cap_text cap)) }
+fn put_cap<W: Write>(pen: &mut Pen<W>, cap: Cap)
+    ensures { Writes pen.old (cap_text cap) pen.new }
 {
-    put_kind(out, cap.kind)?;
-    put_named(out, b" address ", cap.address.0)?;
-    put_details(out, cap)?;
-    out.write_all(b"\n")
+    put_kind(pen, cap.kind);
+    put_named(pen, b" address ", cap.address.0);
+    put_details(pen, cap);
+    pen.put_byte(b'\n');
 }
 
 // The line of a row of the table.
-#[tactic(auto, unfolding(crate::specs::Drawn::drawn_row))]
-fn draw_row<W: Write>(out: &mut W, table: &[u32], row: u32) -> Result<()>
-    ensures { OnOk result (Appends (W.contents out.old) (W.contents out.new) (drawn_row table.now row)) }
+#[tactic(auto, unfolding(crate::specs::Drawn::drawn_row, crate::specs::Writing::wrote), using(crate::proofs::Writing::wrote_append))]
+fn draw_row<W: Write>(pen: &mut Pen<W>, table: &[u32], row: u32)
+    ensures { Writes pen.old (drawn_row table.now row) pen.new }
 {
     if !has_row(table, row) {
-        return Ok(());
+        return;
     }
-    put_row(out, row, word(table, Row(row), Column::Depth))?;
-    put_cap(out, cap_at(table, Row(row)))
+    put_row(pen, row, word(table, Row(row), Column::Depth));
+    put_cap(pen, cap_at(table, Row(row)));
 }
 
 // A line for each of the listed rows, from the head on, and `end`.
-pub fn draw<W: Write>(out: &mut W, table: &[u32], head: u32, count: u32) -> Result<()>
-    ensures { OnOk result (Appends (W.contents out.old) (W.contents out.new) (tree_text table.now head count)) }
+pub fn draw<W: Write>(pen: &mut Pen<W>, table: &[u32], head: u32, count: u32)
+    ensures { Writes pen.old (tree_text table.now head count) pen.new }
 {
     let mut row = head;
     for _ in 0..count {
-        draw_row(out, table, row)?;
+        draw_row(pen, table, row);
         row = next_row(table, row);
     }
-    out.write_all(b"end\n")
+    pen.put_text(b"end\n");
 }
