@@ -1,18 +1,16 @@
 -- The words that Boot stores are those of the table that it writes: row 0, an untyped's row, and an empty row.
 -- Assumes nothing.
-use Rattle.std.specs.Prelude.{◌≡◌, ℕ, zero, suc, ◌+◌, ◌-◌, ◌*◌, ◌/◌, ◌%◌, ◌^◌, ◌<◌, ◌≤◌, cond, eqb, List, [], ◌∷◌, length, get_or, set}
+use Rattle.std.specs.Prelude.{◌≡◌, ℕ, zero, suc, ◌+◌, ◌-◌, ◌*◌, ◌%◌, ◌^◌, ◌<◌, ◌≤◌, cond, eqb, [], ◌∷◌, length}
 use mathlib.Core.Path.{refl, sym, ap, ap₂, ◌∙◌, subst}
 use native.Mathlib.Nat.{one-mul}
 use native.Mathlib.Omega.{arith}
 use lib.Dec.{lit<}
-use lib.Seq.{get_or-set_same, get_or-set_other}
 use lib.Pow.{shl_exact}
 use borrow.Author.Tests.{eq-eqb, ne_eqb}
 use Rattle.model.specs.Edition.{edition32}
 use Rattle.model.specs.Tables.{rows, zero_row, listing, write}
 use Rattle.model.specs.Request.{booted}
-use Rattle.model.proofs.Distinct.{Order, less, same, more, order}
-use Rattle.model.proofs.Words.Rows.{row_at, eight_at, length_rows_from}
+use Rattle.model.proofs.Words.Rows.{row_at, length_rows_from}
 use Rattle.model.proofs.Words.Booted.{row_booted, row_unbooted}
 use Rattle.model.proofs.Words.Bounds.{m_most, radix_room}
 use Rattle.zhvanirek_core.specs.Booting.{Range, boot_table}
@@ -70,17 +68,3 @@ next_none m r k next e n = n ∙ rw (eq-eqb k (m - (r + 4)) (omega arith))
 
 pub next_row_lem : (m r k next : ℕ) → (k ≡ m - r - 4 → ⊥) → next ≡ k + 1 → next ≡ cond (eqb k (m - (r + 4))) 4294967295 (k + 1)
 next_row_lem m r k next e n = n ∙ rw (ne_eqb k (m - (r + 4)) (λ q. e (omega arith)))
-
--- word j of a table is a word of its row
-pub word_of_row : (t : List ℕ) (j : ℕ) → get_or (row_at t (j / 8)) (j % 8) 0 ≡ get_or t j 0
-word_of_row t j = eight_at (λ i. get_or t (j / 8 * 8 + i) 0) (j % 8) (omega arith) ∙ ap (λ i. get_or t i 0) (omega arith)
-
--- one more word of u stored
-pub one_more : (t u : List ℕ) (j v : ℕ) → j < length t → ((i : ℕ) → i < j → get_or t i 0 ≡ get_or u i 0) → v ≡ get_or u j 0
-    → (i : ℕ) → i < j + 1 → get_or (set t j v) i 0 ≡ get_or u i 0
-one_more t u j v h held e i l = go (order i j)
-  where
-    go : Order i j → get_or (set t j v) i 0 ≡ get_or u i 0
-    go (less o) = get_or-set_other t j i v 0 (omega arith) ∙ held i o
-    go (same o) = subst (λ (n : ℕ). get_or (set t j v) n 0 ≡ get_or u n 0) (sym o) (get_or-set_same t j v 0 h ∙ e)
-    go (more o) = absurd (omega arith)
