@@ -8,7 +8,8 @@ use model::{Cap, Kind, Row};
 use std::io::Write;
 use table::caps::same_object;
 use table::figures::MOST_ROWS;
-use table::{Column, cap_at, word};
+use table::size::slots_of;
+use table::{Column, cap_at, row_of, word};
 
 // The rows that have entered: marked, and in the first `count` places of the queue.
 #[derive(Drop)]
@@ -42,8 +43,8 @@ impl Estate {
     // The slots of a CNode enter.
     fn enter_slots(&mut self, cap: Cap) {
         if cap.is(Kind::CNode) && cap.size <= 12 {
-            let first = (cap.address.0 >> 4) as usize;
-            for i in 0..1usize << cap.size {
+            let first = row_of(cap.address).0 as usize;
+            for i in 0..slots_of(cap) as usize {
                 self.enter(first + i);
             }
         }

@@ -1,9 +1,8 @@
 -- The slots of a CNode, one by one.
-use Prim.Native.Nat.{ℕ, ◌+◌, ◌*◌, ◌%◌, ◌^◌, ◌≤◌, ◌<◌}
-use mathlib.Core.Path.{◌≡◌, sym, ◌∙◌}
+use Prim.Native.Nat.{ℕ, ◌+◌, ◌≤◌, ◌<◌}
+use mathlib.Core.Path.{◌≡◌, sym}
 use mathlib.Core.Bool.{true, false, not, ◌&&◌, ◌||◌}
 use native.Mathlib.Omega.{arith}
-use native.Mathlib.Nat.{one-mul, mod-eq_of_lt}
 use native.Mathlib.Decide.{dec_lt}
 use lib.Pow.{pow_mono}
 use lib.Dec.{leb, ltb, eqb}
@@ -39,7 +38,7 @@ module _ (cap : ℕ → Cap) where
   unfolding between in_node houses
   between_all node first end j c f e = rw (c, ← f, ← e)
 
--- ---- how many slots a CNode has, as code computes it
+-- ---- the radix of a CNode with no more slots than the largest table has rows
 
 pub radix_small : (c : Cap) → slots c ≤ most_rows → c.size < 32
 unfolding slots
@@ -48,7 +47,3 @@ radix_small c h =
       | yes l ↦ l
       | no l ↦ absurd (omega (arith, pow_mono {i = 32} {j = c.size} (omega arith)))
     ]
-
-pub slots_shifted : (c : Cap) → slots c ≤ most_rows → 1 * 2 ^ c.size % 4294967296 ≡ slots c
-unfolding slots
-slots_shifted c h = mod-eq_of_lt (omega arith) ∙ one-mul (2 ^ c.size)

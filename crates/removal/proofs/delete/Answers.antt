@@ -3,7 +3,6 @@
 use mathlib.Core.Path.{sym, ◌∙◌}
 use Rattle.removal.specs.Removing.{occupied}
 use Rattle.removal.proofs.Nodes.{nodes, found_at}
-use Rattle.removal.proofs.Start.{counted_start, waiting_start}
 use Rattle.removal.proofs.Removed.{removes_target}
 use Rattle.removal.proofs.Cutting.{removes_none, removes_one}
 use Rattle.removal.proofs.delete.Goals as goal
@@ -26,11 +25,8 @@ returns-then-goes_alone c =
 pub of-going-requires : goal.of-going-requires
 of-going-requires c = nodes _ c.requires.formed
 
-pub mark_row-requires-clause-counted : goal.mark_row-requires-clause-counted
-mark_row-requires-clause-counted c = counted_start _ _ (nodes _ c.requires.formed) c.of-going.ensures
-
 pub sweep-requires-clause-waiting : goal.sweep-requires-clause-waiting
-sweep-requires-clause-waiting c = c.mark_row.ensures.waiting 0 (waiting_start _ _ (nodes _ c.requires.formed) c.of-going.ensures)
+sweep-requires-clause-waiting c = c.mark_row.ensures.waiting 0 c.of-going.ensures.waiting
 
 pub returns : goal.returns
-returns c = removes_target _ c.requires.formed _ c.of-going.ensures c.mark_row.ensures _ _ c.sweep.ensures
+returns c = removes_target _ c.requires.formed _ c.of-going.ensures.started c.mark_row.ensures _ _ c.sweep.ensures
