@@ -63,7 +63,7 @@ wrote_append p [] t = refl
 wrote_append p (b ∷ s) t = wrote_append (byte_on p b) s t
 
 infixl 20 ◌then◌
-pub ◌then◌ : {W : Type 0} {pen pen' pen'' : Pen W} {s t : List ℕ} → Writes pen s pen' → Writes pen' t pen'' → Writes pen (s ++ t) pen''
+pub ◌then◌ : {W : Type 0} {PAGE : ℕ} {pen pen' pen'' : Pen W PAGE} {s t : List ℕ} → Writes pen s pen' → Writes pen' t pen'' → Writes pen (s ++ t) pen''
 ◌then◌ {pen = pen} {s = s} {t = t} v w =
     record {
       page = w.page ∙ ap (λ (p : Page). wrote p t) v.page ∙ sym (wrote_append (under pen) s t);
@@ -71,6 +71,6 @@ pub ◌then◌ : {W : Type 0} {pen pen' pen'' : Pen W} {s t : List ℕ} → Writ
     }
 
 -- nothing is written
-pub nothing : {W : Type 0} (pen : Pen W) → Writes pen [] pen
+pub nothing : {W : Type 0} {PAGE : ℕ} (pen : Pen W PAGE) → Writes pen [] pen
 unfolding wrote
 nothing pen = record { page = refl; lost = λ l. l }

@@ -141,11 +141,11 @@ line_told (Err bad) = true
 -- ---- promises
 
 -- from what is kept and a pen to what is kept then and the pen after the text
-pub record Replies {W : Type 0} (r : Reply) (s' : Lending) (pen pen' : Pen W) : Type 0 where
+pub record Replies {W : Type 0} {PAGE : ℕ} (r : Reply) (s' : Lending) (pen pen' : Pen W PAGE) : Type 0 where
   pub after : s' ≡ r.after
   pub said : Writes pen r.text pen'
 
 -- the same, where what is written is told
-pub record Obeys {W : Type 0} (told : Bool) (r : Reply) (s' : Lending) (pen pen' : Pen W) : Type 0 where
+pub record Obeys {W : Type 0} {PAGE : ℕ} (told : Bool) (r : Reply) (s' : Lending) (pen pen' : Pen W PAGE) : Type 0 where
   pub after : s' ≡ r.after
   pub said : told ≡ true → Writes pen r.text pen'

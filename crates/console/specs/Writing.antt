@@ -53,16 +53,16 @@ wrote p (b ∷ bs) = wrote (byte_on p b) bs
 -- ---- promises
 
 -- the page under a pen
-abbrev pub under : {W : Type 0} → Pen W → Page
+abbrev pub under : {W : Type 0} {PAGE : ℕ} → Pen W PAGE → Page
 under pen = record { out = pen.page; at = pen.at }
 
 -- With a pen a text is written. Whether a write fails is the operating system's, but a failure is not forgotten.
-pub record Writes {W : Type 0} (pen : Pen W) (text : List ℕ) (pen' : Pen W) : Type 0 where
+pub record Writes {W : Type 0} {PAGE : ℕ} (pen : Pen W PAGE) (text : List ℕ) (pen' : Pen W PAGE) : Type 0 where
   pub page : under pen' ≡ wrote (under pen) text
   pub lost : pen.lost ≡ true → pen'.lost ≡ true
 
 -- The page is handed on: where nothing is lost, the writer holds its bytes up to the pen's place after what it held.
-pub record HandsOn {W : Type 0} (contents : W → Option (List ℕ)) (pen pen' : Pen W) : Type 0 where
+pub record HandsOn {W : Type 0} {PAGE : ℕ} (contents : W → Option (List ℕ)) (pen pen' : Pen W PAGE) : Type 0 where
   pub page : pen'.page ≡ pen.page
   pub start : pen'.at ≡ 0
   pub lost : pen.lost ≡ true → pen'.lost ≡ true

@@ -14,28 +14,27 @@ use std::io::Write;
 use std::marker::Model;
 use table::figures::Memory;
 
-// How many words the largest table has.
-const WORDS: usize = 32768;
-
-// What is kept from line to line: the words of the table, of which the first `lent` are lent, and the control words.
-#[derive(Drop)]
-pub struct Desk {
+// What is kept from line to line: the words of a table of any length, of which the first `lent` are lent, and the control words.
+#[derive(Clone, Copy)]
+pub struct Desk<const WORDS: usize> {
     table: [u32; WORDS],
     control: [u32; 4],
     lent: usize,
 }
 
-impl Model for Desk {
+impl<const WORDS: usize> Model for Desk<WORDS> {
     ghost Value = { Lending };
 
     ghost view = { λ d. lending d.table d.control d.lent };
 
-    ghost invariant = { λ d. d.lent ≤ 32768 };
+    ghost inverse = { λ s. record { table = s.table; control = s.control; lent = s.count } };
+
+    ghost invariant = { λ d. d.lent ≤ WORDS };
 }
 
-impl Desk {
+impl<const WORDS: usize> Desk<WORDS> {
     // Nothing is lent.
-    pub fn new() -> Desk
+    pub fn new() -> Self
         ensures { result.count ≡ 0 }
     {
         Desk {
@@ -45,13 +44,14 @@ impl Desk {
         }
     }
 
-    // The first words of the table become 0 and are lent.
+    // The first words of the table become 0 and are lent, if it has as many; else what was lent stays so.
     fn lend(&mut self, words: usize)
-        requires { words ≤ 32768 }
         ensures { self.new ≡ lend_if self.old words }
     {
-        self.table[..words].fill(0);
-        self.lent = words;
+        if words <= WORDS {
+            self.table[..words].fill(0);
+            self.lent = words;
+        }
     }
 
     // What is lent: the words of the table, and the control words.
@@ -75,7 +75,7 @@ impl Desk {
 
     // `boot M R`
     #[tactic(auto, unfolding(crate::specs::Obeying::on_boot, crate::specs::Obeying::boot_lent))]
-    fn boot<W: Write>(&mut self, m: u32, radix: u32, pen: &mut Pen<W>)
+    fn boot<W: Write, const PAGE: usize>(&mut self, m: u32, radix: u32, pen: &mut Pen<W, PAGE>)
         ensures { Replies (on_boot self.old m radix) self.new pen.old pen.new }
     {
         self.fit(m);
@@ -88,7 +88,7 @@ impl Desk {
 
     // `size N`: a table of N zero words, and control words 0.
     #[tactic(auto, unfolding(crate::specs::Obeying::on_size))]
-    fn size<W: Write>(&mut self, n: u32, pen: &mut Pen<W>)
+    fn size<W: Write, const PAGE: usize>(&mut self, n: u32, pen: &mut Pen<W, PAGE>)
         ensures { Replies (on_size self.old n) self.new pen.old pen.new }
     {
         let table: &[u32] = &self.table;
@@ -102,20 +102,21 @@ impl Desk {
 
     // `row K A B C D E F G H`: sets row K, if it is wholly in the lent table.
     #[tactic(auto, unfolding(crate::specs::Obeying::on_row))]
-    fn row<W: Write>(&mut self, numbers: &[u32; 17], pen: &mut Pen<W>)
+    fn row<W: Write, const PAGE: usize>(&mut self, numbers: &[u32; 17], pen: &mut Pen<W, PAGE>)
         ensures { Replies (on_row self.old (slice_index numbers.now 0) (take 8 (drop 1 numbers.now))) self.new pen.old pen.new }
     {
         let from = numbers[0] as usize * 8;
         if self.lent < from + 8 {
             return pen.put_text(b"bad\n");
         }
-        self.table[from..from + 8].copy_from_slice(&numbers[1..9]);
+        let table: &mut [u32] = &mut self.table;
+        table[from..from + 8].copy_from_slice(&numbers[1..9]);
         pen.put_text(b"ok\n");
     }
 
     // `ask CALLER W0 W1 ..`: a request of the words after the first of a line's numbers.
     #[tactic(auto, unfolding(crate::specs::Obeying::on_ask_line, crate::specs::Obeying::on_ask))]
-    fn ask<W: Write>(&mut self, line: &Line, pen: &mut Pen<W>)
+    fn ask<W: Write, const PAGE: usize>(&mut self, line: &Line, pen: &mut Pen<W, PAGE>)
         ensures { Replies (on_ask_line self.old line.now.numbers line.now.count) self.new pen.old pen.new }
     {
         let numbers: &[u32] = &line.numbers;
@@ -136,7 +137,7 @@ impl Desk {
 
     // `show`
     #[tactic(auto, unfolding(crate::specs::Obeying::on_show))]
-    fn show<W: Write>(&self, pen: &mut Pen<W>)
+    fn show<W: Write, const PAGE: usize>(&self, pen: &mut Pen<W, PAGE>)
         ensures { Writes pen.old (on_show self.now).text pen.new }
     {
         let (table, control) = self.lent();
@@ -145,7 +146,7 @@ impl Desk {
 
     // `tree`, of tables that are well-formed.
     #[tactic(auto, unfolding(crate::specs::Obeying::on_tree))]
-    fn tree<W: Write>(&self, pen: &mut Pen<W>)
+    fn tree<W: Write, const PAGE: usize>(&self, pen: &mut Pen<W, PAGE>)
         ensures { Writes pen.old (on_tree self.now).text pen.new }
     {
         let (table, control) = self.lent();
@@ -157,7 +158,7 @@ impl Desk {
     }
 
     // `estate ROW`, of tables that are well-formed and have that row.
-    fn estate<W: Write>(&self, row: u32, pen: &mut Pen<W>) {
+    fn estate<W: Write, const PAGE: usize>(&self, row: u32, pen: &mut Pen<W, PAGE>) {
         let (table, control) = self.lent();
         if !has_row(table, row) || !rules::check(table, control) {
             return pen.put_text(b"bad\n");
@@ -167,7 +168,12 @@ impl Desk {
 
     // A command is done, with a line's numbers.
     #[tactic(auto, unfolding(crate::specs::Obeying::reply, crate::specs::Obeying::on_control, crate::specs::Obeying::on_show, crate::specs::Obeying::on_tree))]
-    fn run<W: Write>(&mut self, command: Command, line: &Line, pen: &mut Pen<W>)
+    fn run<W: Write, const PAGE: usize>(
+        &mut self,
+        command: Command,
+        line: &Line,
+        pen: &mut Pen<W, PAGE>,
+    )
         ensures { Obeys (is_told command) (reply command self.old line.now.numbers line.now.count) self.new pen.old pen.new }
     {
         let n = &line.numbers;
@@ -189,7 +195,7 @@ impl Desk {
     // Does what a line asks for. It stands apart, so that what is done for each byte stays small.
     #[inline(never)]
     #[tactic(auto, unfolding(crate::specs::Writing::wrote))]
-    pub fn obey<W: Write>(&mut self, line: &Line, pen: &mut Pen<W>)
+    pub fn obey<W: Write, const PAGE: usize>(&mut self, line: &Line, pen: &mut Pen<W, PAGE>)
         ensures { Obeys (line_told (command_of line.now)) (line_reply (command_of line.now) self.old line.now.numbers line.now.count) self.new pen.old pen.new }
     {
         match command_of(line) {

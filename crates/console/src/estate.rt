@@ -99,7 +99,7 @@ impl Estate {
 
 // The rows of the estate of a row, ascending, as a line. It stands apart for its large arrays.
 #[inline(never)]
-pub fn put_estate<W: Write>(pen: &mut Pen<W>, table: &[u32], row: u32) {
+pub fn put_estate<W: Write, const PAGE: usize>(pen: &mut Pen<W, PAGE>, table: &[u32], row: u32) {
     let mut estate = Estate {
         marks: [false; MOST_ROWS],
         queue: [0; MOST_ROWS],

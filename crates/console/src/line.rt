@@ -23,7 +23,7 @@ pub enum Place {
 // What is kept of a line. `key` is 1 and then the bytes of the first word, as the digits of a number to the base 256; `value` is the number
 // that is being read, and the first `count` of `numbers` came before it. `held` is a carriage return, which belongs to the line only if
 // something comes after it. `bad` is a word that is too long, a number that is none or too great, or a number too many.
-#[derive(Drop)]
+#[derive(Clone, Copy)]
 pub struct Line {
     pub place: Place,
     pub held: bool,

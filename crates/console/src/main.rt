@@ -17,23 +17,29 @@ use std::io::{Read, Write};
 // How many bytes are read at once, at most.
 const CHUNK: usize = 65536;
 
+// How many bytes are written at once, at most.
+const PAGE: usize = 65536;
+
+// How many words the largest table has.
+const WORDS: usize = 32768;
+
 // What is kept from byte to byte: the desk, and the line so far.
-#[derive(Drop)]
+#[derive(Clone, Copy)]
 struct Session {
-    desk: Desk,
+    desk: Desk<WORDS>,
     line: Line,
 }
 
 impl Session {
     // The line is whole: what it asks for is done, and the next one begins.
-    fn end_line<W: Write>(&mut self, pen: &mut Pen<W>) {
+    fn end_line<W: Write, const PAGE: usize>(&mut self, pen: &mut Pen<W, PAGE>) {
         self.line.whole();
         self.desk.obey(&self.line, pen);
         self.line = Line::new();
     }
 
     // Bytes of the input. What is to be written for them is handed on.
-    fn feed<W: Write>(&mut self, bytes: &[u8], pen: &mut Pen<W>) {
+    fn feed<W: Write, const PAGE: usize>(&mut self, bytes: &[u8], pen: &mut Pen<W, PAGE>) {
         for &byte in bytes {
             match byte {
                 b'\n' => self.end_line(pen),
@@ -46,7 +52,7 @@ impl Session {
 
 // Reads to the end of the input, which a read that fails is too, or until a write has failed. The end is taken as a line feed, so that a last
 // line needs none. A proved loop has to end, and nothing says that the input does: so the turns are counted, up to a number that no run reaches.
-fn run<R: Read, W: Write>(input: &mut R, pen: &mut Pen<W>) {
+fn run<R: Read, W: Write, const PAGE: usize>(input: &mut R, pen: &mut Pen<W, PAGE>) {
     let mut session = Session {
         desk: Desk::new(),
         line: Line::new(),
@@ -65,5 +71,5 @@ fn run<R: Read, W: Write>(input: &mut R, pen: &mut Pen<W>) {
 
 // A write that fails ends the program, and is no failure of its own.
 fn main(rt: HostRuntime) {
-    run(&mut rt.stdin(), &mut Pen::new(rt.stdout()));
+    run(&mut rt.stdin(), &mut Pen::<_, PAGE>::new(rt.stdout()));
 }

@@ -1,27 +1,38 @@
 // Text that is written: bytes are collected on a page, which is handed on when it is full and at the end of each turn.
-ghost use Rattle.std.specs.Prelude.{◌≡◌, ◌≤◌, [], ◌∷◌, false};
+ghost use Rattle.std.specs.Prelude.{◌≡◌, ◌≤◌, ⊤, [], ◌∷◌, false};
 
+use std::alloc::AllocError;
 use std::io::Write;
 
-// How many bytes a page holds.
-const PAGE: usize = 65536;
-
-// A writer with a page before it, whose bytes before `at` are still to be handed on. `lost` says that a write failed.
+// A writer with a page of any length before it, whose bytes before `at` are still to be handed on. `lost` says that a write failed.
 #[derive(Drop)]
-pub struct Pen<W> {
+pub struct Pen<W, const PAGE: usize> {
     writer: W,
     page: [u8; PAGE],
     at: usize,
     // a flag and no result: what writes cannot fail, and what it leaves on the page is promised on every run
     lost: bool,
-    ghost on_page: { at ≤ 65536 },
+    ghost on_page: { at ≤ PAGE },
 }
 
-impl<W: Write> Pen<W> {
+// A pen on a writer that can be copied can be copied too, with its page.
+impl<W: Copy, const PAGE: usize> Clone for Pen<W, PAGE> {
+    ghost is_clone = { λ pen copy. copy ≡ pen };
+
+    ghost is_infallible = { λ _. ⊤ };
+
+    fn clone(&self) -> Result<Self, AllocError> {
+        Ok(*self)
+    }
+}
+
+impl<W: Copy, const PAGE: usize> Copy for Pen<W, PAGE> {}
+
+impl<W: Write, const PAGE: usize> Pen<W, PAGE> {
     ghost use Rattle.console.specs.Writing.{HandsOn, Writes, decimal, spaced};
 
     // An empty page before a writer.
-    pub fn new(writer: W) -> Pen<W>
+    pub fn new(writer: W) -> Self
         ensures writer { result.writer ≡ writer }
         ensures start { result.at ≡ 0 }
         ensures kept { result.lost ≡ false }
@@ -59,16 +70,18 @@ impl<W: Write> Pen<W> {
         self.lost |= self.writer.flush().is_err();
     }
 
-    // A byte: a full page is handed on first.
+    // A byte: a full page is handed on first; a page of no bytes takes none.
     #[tactic(auto, unfolding(crate::specs::Writing::byte_on, crate::specs::Writing::wrote))]
     pub fn put_byte(&mut self, byte: u8)
         ensures { Writes self.old (byte ∷ []) self.new }
     {
-        if self.at == PAGE {
+        if PAGE <= self.at {
             self.hand_on();
         }
-        self.page[self.at] = byte;
-        self.at += 1;
+        if self.at < PAGE {
+            self.page[self.at] = byte;
+            self.at += 1;
+        }
     }
 
     // The bytes of a text.

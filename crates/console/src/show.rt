@@ -10,7 +10,7 @@ use std::io::Write;
 
 // The six words of an answer, as a line.
 #[tactic(auto, using(crate::proofs::Writing::wrote_append, crate::proofs::Shown::answer_line))]
-pub fn put_answer<W: Write>(pen: &mut Pen<W>, words: [u32; 6])
+pub fn put_answer<W: Write, const PAGE: usize>(pen: &mut Pen<W, PAGE>, words: [u32; 6])
     ensures { Writes pen.old (answer_text words) pen.new }
 {
     pen.put_number(words[0].into());
@@ -27,7 +27,7 @@ fn all_zero(words: &[u32]) -> bool
 
 // Row k, if a word of it is not 0.
 #[tactic(auto, unfolding(crate::specs::Writing::wrote), using(crate::proofs::Writing::wrote_append, crate::proofs::Shown::row_hidden, crate::proofs::Shown::row_line))]
-fn show_row<W: Write>(pen: &mut Pen<W>, table: &[u32], k: usize)
+fn show_row<W: Write, const PAGE: usize>(pen: &mut Pen<W, PAGE>, table: &[u32], k: usize)
     requires { k * 8 + 8 ≤ length table.now }
     ensures { Writes pen.old (row_text table.now k) pen.new }
 {
@@ -43,7 +43,7 @@ fn show_row<W: Write>(pen: &mut Pen<W>, table: &[u32], k: usize)
 
 // The control words, each row with a word that is not 0, and `end`.
 #[tactic(auto, unfolding(crate::specs::Show::show_text, crate::specs::Writing::wrote), using(crate::proofs::Writing::wrote_append))]
-pub fn show<W: Write>(pen: &mut Pen<W>, table: &[u32], control: &[u32; 4])
+pub fn show<W: Write, const PAGE: usize>(pen: &mut Pen<W, PAGE>, table: &[u32], control: &[u32; 4])
     ensures { Writes pen.old (show_text table.now control.now) pen.new }
 {
     pen.put_text(b"control");

@@ -28,7 +28,7 @@ pub fn next_row(table: &[u32], row: u32) -> u32
 }
 
 // Two spaces for each depth.
-fn put_indent<W: Write>(pen: &mut Pen<W>, depth: u32)
+fn put_indent<W: Write, const PAGE: usize>(pen: &mut Pen<W, PAGE>, depth: u32)
     ensures { Writes pen.old (indent depth) pen.new }
 {
     for _ in 0..depth {
@@ -37,7 +37,7 @@ fn put_indent<W: Write>(pen: &mut Pen<W>, depth: u32)
 }
 
 // A name and a number.
-fn put_named<W: Write>(pen: &mut Pen<W>, name: &[u8], n: u32)
+fn put_named<W: Write, const PAGE: usize>(pen: &mut Pen<W, PAGE>, name: &[u8], n: u32)
     ensures { Writes pen.old (name.now ++ decimal n) pen.new }
 {
     pen.put_text(name);
@@ -46,7 +46,7 @@ fn put_named<W: Write>(pen: &mut Pen<W>, name: &[u8], n: u32)
 
 // The name of a kind.
 #[tactic(auto, unfolding(crate::specs::Drawn::kind_text))]
-fn put_kind<W: Write>(pen: &mut Pen<W>, kind: u32)
+fn put_kind<W: Write, const PAGE: usize>(pen: &mut Pen<W, PAGE>, kind: u32)
     ensures { Writes pen.old (kind_text kind) pen.new }
 {
     match Kind::try_from(kind) {
@@ -61,7 +61,7 @@ fn put_kind<W: Write>(pen: &mut Pen<W>, kind: u32)
 
 // The name of rights: write 1, read 2, grant 4.
 #[tactic(auto, unfolding(crate::specs::Drawn::rights_name))]
-fn put_rights_name<W: Write>(pen: &mut Pen<W>, rights: u32)
+fn put_rights_name<W: Write, const PAGE: usize>(pen: &mut Pen<W, PAGE>, rights: u32)
     ensures { Writes pen.old (rights_name rights) pen.new }
 {
     match rights {
@@ -77,7 +77,7 @@ fn put_rights_name<W: Write>(pen: &mut Pen<W>, rights: u32)
 }
 
 // Rights.
-fn put_rights<W: Write>(pen: &mut Pen<W>, rights: u32)
+fn put_rights<W: Write, const PAGE: usize>(pen: &mut Pen<W, PAGE>, rights: u32)
     ensures { Writes pen.old (rights_text rights) pen.new }
 {
     pen.put_text(b" rights ");
@@ -85,7 +85,7 @@ fn put_rights<W: Write>(pen: &mut Pen<W>, rights: u32)
 }
 
 // The bytes of an Untyped, from its size.
-fn put_bytes<W: Write>(pen: &mut Pen<W>, size: u32)
+fn put_bytes<W: Write, const PAGE: usize>(pen: &mut Pen<W, PAGE>, size: u32)
     ensures { Writes pen.old (bytes_text size) pen.new }
 {
     pen.put_text(b" bytes ");
@@ -95,7 +95,7 @@ fn put_bytes<W: Write>(pen: &mut Pen<W>, size: u32)
 }
 
 // The badge and the rights of an Endpoint or a Notification.
-fn put_badge<W: Write>(pen: &mut Pen<W>, cap: Cap)
+fn put_badge<W: Write, const PAGE: usize>(pen: &mut Pen<W, PAGE>, cap: Cap)
     ensures { Writes pen.old (badge_text cap) pen.new }
 {
     put_named(pen, b" badge ", cap.third);
@@ -104,7 +104,7 @@ fn put_badge<W: Write>(pen: &mut Pen<W>, cap: Cap)
 
 // What a capability holds beside its kind and address.
 #[tactic(auto, unfolding(crate::specs::Drawn::details_text, crate::specs::Writing::wrote), using(crate::proofs::Writing::wrote_append))]
-fn put_details<W: Write>(pen: &mut Pen<W>, cap: Cap)
+fn put_details<W: Write, const PAGE: usize>(pen: &mut Pen<W, PAGE>, cap: Cap)
     ensures { Writes pen.old (details_text cap) pen.new }
 {
     match Kind::try_from(cap.kind) {
@@ -124,7 +124,7 @@ fn put_details<W: Write>(pen: &mut Pen<W>, cap: Cap)
 }
 
 // The start of a row's line: its depth and its number.
-fn put_row<W: Write>(pen: &mut Pen<W>, row: u32, depth: u32)
+fn put_row<W: Write, const PAGE: usize>(pen: &mut Pen<W, PAGE>, row: u32, depth: u32)
     ensures { Writes pen.old (indent depth ++ named "row " row ++ ascii " ") pen.new }
 {
     put_indent(pen, depth);
@@ -133,7 +133,7 @@ fn put_row<W: Write>(pen: &mut Pen<W>, row: u32, depth: u32)
 }
 
 // The rest of a row's line: its capability.
-fn put_cap<W: Write>(pen: &mut Pen<W>, cap: Cap)
+fn put_cap<W: Write, const PAGE: usize>(pen: &mut Pen<W, PAGE>, cap: Cap)
     ensures { Writes pen.old (cap_text cap) pen.new }
 {
     put_kind(pen, cap.kind);
@@ -144,7 +144,7 @@ fn put_cap<W: Write>(pen: &mut Pen<W>, cap: Cap)
 
 // The line of a row of the table.
 #[tactic(auto, unfolding(crate::specs::Drawn::drawn_row, crate::specs::Writing::wrote), using(crate::proofs::Writing::wrote_append))]
-fn draw_row<W: Write>(pen: &mut Pen<W>, table: &[u32], row: u32)
+fn draw_row<W: Write, const PAGE: usize>(pen: &mut Pen<W, PAGE>, table: &[u32], row: u32)
     ensures { Writes pen.old (drawn_row table.now row) pen.new }
 {
     if !has_row(table, row) {
@@ -155,7 +155,12 @@ fn draw_row<W: Write>(pen: &mut Pen<W>, table: &[u32], row: u32)
 }
 
 // A line for each of the listed rows, from the head on, and `end`.
-pub fn draw<W: Write>(pen: &mut Pen<W>, table: &[u32], head: u32, count: u32)
+pub fn draw<W: Write, const PAGE: usize>(
+    pen: &mut Pen<W, PAGE>,
+    table: &[u32],
+    head: u32,
+    count: u32,
+)
     ensures { Writes pen.old (tree_text table.now head count) pen.new }
 {
     let mut row = head;
