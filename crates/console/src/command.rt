@@ -1,5 +1,5 @@
 // What a line asks for is done.
-ghost use Rattle.std.specs.Prelude.{◌≡◌, ◌≤◌, drop, length, slice_index, take};
+ghost use Rattle.std.specs.Prelude.{◌≡◌, ◌≤◌, drop, length, nat_le, slice_index, take};
 ghost use Rattle.console.specs.Asking.{command_of};
 ghost use Rattle.console.specs.Obeying.{Lending, Obeys, Replies, fitted, is_told, lend_if, lending, line_reply, line_told, on_ask_line, on_boot, on_row, on_show, on_size, on_tree, reply};
 ghost use Rattle.console.specs.Writing.{Writes};
@@ -44,14 +44,17 @@ impl<const WORDS: usize> Desk<WORDS> {
         }
     }
 
-    // The first words of the table become 0 and are lent, if it has as many; else what was lent stays so.
-    fn lend(&mut self, words: usize)
-        ensures { self.new ≡ lend_if self.old words }
+    // The first words of the table become 0 and are lent, if it has as many; else what was lent stays so. Whether it has.
+    fn lend(&mut self, words: usize) -> bool
+        ensures lent { self.new ≡ lend_if self.old words }
+        ensures fits { result ≡ nat_le words (length self.old.table) }
     {
-        if words <= WORDS {
+        let fits = words <= WORDS;
+        if fits {
             self.table[..words].fill(0);
             self.lent = words;
         }
+        fits
     }
 
     // What is lent: the words of the table, and the control words.
@@ -91,11 +94,9 @@ impl<const WORDS: usize> Desk<WORDS> {
     fn size<W: Write, const PAGE: usize>(&mut self, n: u32, pen: &mut Pen<W, PAGE>)
         ensures { Replies (on_size self.old n) self.new pen.old pen.new }
     {
-        let table: &[u32] = &self.table;
-        if table.len() < n as usize {
+        if !self.lend(n as usize) {
             return pen.put_text(b"bad\n");
         }
-        self.lend(n as usize);
         self.control = [0; 4];
         pen.put_text(b"ok\n");
     }
@@ -109,6 +110,7 @@ impl<const WORDS: usize> Desk<WORDS> {
         if self.lent < from + 8 {
             return pen.put_text(b"bad\n");
         }
+        // a slice: the check does not lend the middle of an array whose length is a parameter
         let table: &mut [u32] = &mut self.table;
         table[from..from + 8].copy_from_slice(&numbers[1..9]);
         pen.put_text(b"ok\n");
